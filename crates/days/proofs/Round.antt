@@ -25,8 +25,8 @@ pub record Placed (n k i : ℕ) : Type 0 where
   pub day : day-of n ≡ 1 + (n - start-of year-span k - start-of (month-span (leap (1900 + k))) i)
 
 -- a year and a month that hold a day are those of the definitions
-module _ (n k i : ℕ) (years : k < 300) (in-year : Within year-span n k) where
-  year-is : year-of n ≡ 1900 + k
+module _ (n k : ℕ) (years : k < 300) (in-year : Within year-span n k) where
+  pub year-is : year-of n ≡ 1900 + k
   unfolding year-of
   year-is = ap (λ j. 1900 + j) (span-is year-span 300 n k years in-year)
 
@@ -34,30 +34,33 @@ module _ (n k i : ℕ) (years : k < 300) (in-year : Within year-span n k) where
   unfolding day-in-year
   rest-is = ap (λ j. n - start-of year-span j) (omega (arith, year-is))
 
-  month-is : i < 12 → Within (month-span (leap (1900 + k))) (n - start-of year-span k) i → month-of n ≡ 1 + i
+  month-is :
+      (i : ℕ) → i < 12 → Within (month-span (leap (1900 + k))) (n - start-of year-span k) i → month-of n ≡ 1 + i
   unfolding month-of
-  month-is months in-month =
+  month-is i months in-month =
       ap (λ j. 1 + j)
-      (rw (year-is, rest-is) (span-is (month-span (leap (1900 + k))) 12 (n - start-of year-span k) i months in-month))
+      (rw (year-is, rest-is)
+      (span-is (month-span (leap (1900 + k))) 12 (n - start-of year-span k) i months in-month))
 
   day-is :
-      month-of n ≡ 1 + i → day-of n ≡ 1 + (n - start-of year-span k - start-of (month-span (leap (1900 + k))) i)
+      (i : ℕ) → month-of n ≡ 1 + i →
+      day-of n ≡ 1 + (n - start-of year-span k - start-of (month-span (leap (1900 + k))) i)
   unfolding day-of
-  day-is month = let index : month-of n - 1 ≡ i = omega arith in rw (index, rest-is, year-is) refl
+  day-is i month = let index : month-of n - 1 ≡ i = omega arith in rw (index, rest-is, year-is) refl
 
 pub settled :
     (n k i : ℕ) → k < 300 → i < 12 → Within year-span n k →
     Within (month-span (leap (1900 + k))) (n - start-of year-span k) i → Placed n k i
 settled n k i years months in-year in-month =
-    let month = month-is n k i years in-year months in-month in
+    let month = month-is n k years in-year i months in-month in
     record {
       years = years;
       months = months;
       in-year = in-year;
       in-month = in-month;
-      year = year-is n k i years in-year;
+      year = year-is n k years in-year;
       month = month;
-      day = day-is n k i years in-year month;
+      day = day-is n k years in-year i month;
     }
 
 pub year-index : ℕ → ℕ

@@ -11,8 +11,11 @@ pub record Told : Type 0 where
   pub layer : Layer
   pub place : ℕ
 
+abbrev pub answer : ℕ → Layer → ℕ → Told
+answer n l p = record { number = n; layer = l; place = p }
+
 abbrev pub told : Refusal → Told
-told ClosesWholeWeek = record { number = 6; layer = Text; place = 0 }
-told OffsetOutOfRange = record { number = 7; layer = Text; place = 0 }
-told TooMany = record { number = 8; layer = Text; place = 0 }
-told (NoDayToRollTo index) = record { number = 12; layer = Calendar; place = index }
+told ClosesWholeWeek = answer 6 Text 0
+told OffsetOutOfRange = answer 7 Text 0
+told TooMany = answer 8 Text 0
+told (NoDayToRollTo index) = answer 12 Calendar index

@@ -1,0 +1,3 @@
+pub mod Closed
+pub mod Kinds
+pub mod Refused
