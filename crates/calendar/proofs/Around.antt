@@ -3,7 +3,6 @@
 use mathlib.Core.Path.{_≡_, refl, sym, ap, _∙_}
 use mathlib.Core.Bool.{Bool, true, false, cond, _||_, _&&_}
 use mathlib.Core.List.{List, [], _∷_}
-use mathlib.Core.Logic.{⊎-elim}
 use Prim.Native.Nat.{ℕ, suc, _+_, _-_, _≤_, _<_}
 use native.Mathlib.Omega.{arith}
 use lib.Dec.{leb}
@@ -16,12 +15,13 @@ use Rattle.std.specs.shelf.Lists.{All}
 use Rattle.std.proofs.shelf.Elements.{all-getD}
 use Rattle.std.proofs.shelf.Lists.{getD-default}
 use Rattle.std.proofs.shelf.Signed.{ints}
-use Rattle.std.proofs.shelf.Tests.{cases-bool, leb-true, ltb-true, and-parts, or-right, le-ltb}
+use Rattle.std.proofs.shelf.Tests.{leb-true, ltb-true, and-parts, or-right, le-ltb}
 use Rattle.std.proofs.shelf.Ways.{decides-by-and}
 use Rattle.days.specs.Calendar.{last-day, year-of, month-of, day-of, date-of, year-span, first-year, last-year}
 use Rattle.days.specs.Easter.{easter-of, easter-number}
 use Rattle.days.specs.Spans.{start-of}
 use Rattle.days.specs.Within.{Within}
+use Rattle.days.proofs.Checks.{some-tells}
 use Rattle.days.proofs.Round.{lossless, year-is}
 use Rattle.days.proofs.Spans.{start-mono}
 use Rattle.days.proofs.Years.{years-end}
@@ -33,19 +33,14 @@ use Rattle.calendar.proofs.Members.{offset-decides, within-range}
 -- what a date says of its day, and an Easter of its year
 date-tells : (n y m d : ℕ) → Some (y, m, d) ≡ date-of n → (n ≤ last-day) × (y ≡ year-of n)
 date-tells n y m d e =
-    ⊎-elim
-    (λ t.
-    let f = rw t at e in
-    let same : _≡_ {A = ℕ × ℕ × ℕ} (y, m, d) (year-of n, month-of n, day-of n) = cc in
-    (leb-true _ _ t, ap (λ date. date .0) same))
-    (λ f. let g = rw f at e in absurd (let z : _≡_ {A = ℕ} 0 1 = cc in omega arith)) (cases-bool (leb n last-day))
+    let p = some-tells (leb n last-day) (y, m, d) (year-of n, month-of n, day-of n) e in
+    (leb-true _ _ (p .0), ap (λ date. date .0) (p .1))
 
 easter-tells : (y e : ℕ) → Some e ≡ easter-number y → (first-year ≤ y) × (y ≤ last-year) × (e ≡ easter-of y)
 easter-tells y e is =
-    ⊎-elim
-    (λ t. let p = and-parts _ _ t in let f = rw t at is in (leb-true _ _ (p .0), leb-true _ _ (p .1), (cc)))
-    (λ f. let g = rw f at is in absurd (let z : _≡_ {A = ℕ} 0 1 = cc in omega arith))
-    (cases-bool (leb first-year y && leb y last-year))
+    let p = some-tells (leb first-year y && leb y last-year) e (easter-of y) is in
+    let range = and-parts _ _ (p .0) in
+    (leb-true _ _ (range .0), leb-true _ _ (range .1), p .1)
 
 -- Easter of a year of the range, between the start of its year and that of the next, with sixty days to spare
 pub spare :

@@ -3,6 +3,7 @@ mod closed;
 mod list;
 mod movable;
 mod pattern;
+mod rolling;
 mod union;
 
 pub use closed::ClosedDays;
@@ -12,5 +13,6 @@ pub use movable::EasterRule;
 pub use movable::EasterRuleClosed;
 pub use pattern::WeekdayPattern;
 pub use pattern::WeekdayPatternClosed;
+pub use rolling::Convention;
 pub use union::Union;
 pub use union::UnionClosed;

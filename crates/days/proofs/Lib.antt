@@ -4,3 +4,4 @@ pub mod Years
 pub mod Months
 pub mod Round
 pub mod EasterTable
+pub mod Ends

@@ -75,6 +75,9 @@ date-of n = cond (leb n last-day) (Some (year-of n, month-of n, day-of n)) None
 abbrev pub month-end : ℕ → ℕ
 month-end n = number-of (year-of n) (month-of n) (month-length (year-of n) (month-of n))
 
+abbrev pub month-end-of : ℕ → Option ℕ
+month-end-of n = cond (leb n last-day) (Some (month-end n)) None
+
 -- 0 for Monday to 6 for Sunday
 abbrev pub weekday-of : ℕ → ℕ
 weekday-of n = n % 7

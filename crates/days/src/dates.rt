@@ -5,7 +5,7 @@ ghost use mathlib.Core.Bool.{cond};
 ghost use Prim.Native.Nat.{_+_, _-_, _≤_, _<_};
 ghost use Rattle.std.specs.Options.{Cases};
 ghost use Rattle.days.specs.Spans.{start-of};
-ghost use Rattle.days.specs.Calendar.{leap, year-span, month-span, month-length, IsMonth, IsDate, number-of, date-of, last-day};
+ghost use Rattle.days.specs.Calendar.{leap, year-span, month-span, month-length, IsMonth, IsDate, number-of, date-of, month-end-of, last-day};
 ghost use Rattle.days.specs.Laws.{Lossless, DaysFollow};
 ghost use Rattle.days.specs.Within.{Within};
 
@@ -109,4 +109,13 @@ pub fn day_number(year: u32, month: u32, day: u32) -> Option<u32>
     }
     let index = year - FIRST_YEAR;
     Some(days_before_year(index) + days_before_month(is_leap(year), month - 1) + (day - 1))
+}
+
+// The last day of the month that holds a day; absent above the range.
+pub fn month_end(day: u32) -> Option<u32>
+    ensures { λ r. ⌜ r ≡ month-end-of day ⌝ }
+{
+    let (year, month, day_of_month) = date_of(day)?;
+    let length = days_in_month(year, month)?;
+    Some(day + (length - day_of_month))
 }

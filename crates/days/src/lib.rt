@@ -11,6 +11,7 @@ pub use dates::LAST_YEAR;
 pub use dates::date_of;
 pub use dates::day_number;
 pub use dates::days_in_month;
+pub use dates::month_end;
 pub use refusal::Layer;
 pub use refusal::Refusal;
 pub use week::Weekday;
