@@ -4,3 +4,4 @@ pub mod Refused
 pub mod Rolling
 pub mod Relations
 pub mod Letters
+pub mod Figures

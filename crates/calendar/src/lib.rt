@@ -1,5 +1,7 @@
 // Closed-day sets, and the rolling of days off them.
 mod closed;
+mod common;
+mod figures;
 mod list;
 mod movable;
 mod pattern;
@@ -7,6 +9,8 @@ mod rolling;
 mod union;
 
 pub use closed::ClosedDays;
+pub use common::weekends_and_easter;
+pub use figures::worked_figures;
 pub use list::DatedList;
 pub use list::DatedListClosed;
 pub use movable::EasterRule;
@@ -14,5 +18,11 @@ pub use movable::EasterRuleClosed;
 pub use pattern::WeekdayPattern;
 pub use pattern::WeekdayPatternClosed;
 pub use rolling::Convention;
+pub use rolling::ConventionDebug;
+pub use rolling::ConventionEq;
+pub use rolling::ConventionPartialEq;
 pub use union::Union;
 pub use union::UnionClosed;
+
+#[cfg(test)]
+mod tests;

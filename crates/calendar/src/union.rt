@@ -1,21 +1,12 @@
-// What either of two sets closes.
+// What either of two sets closes: a set again.
 ghost use mathlib.Core.Bool.{_||_};
-ghost use mathlib.Core.Path.{_≡_};
 ghost use Rattle.calendar.specs.Closed.{lawful-first};
 use crate::closed::ClosedDays;
 
 #[derive(Clone, Copy, Drop)]
 pub struct Union<A, B> {
-    first: A,
-    second: B,
-}
-
-impl<A: ClosedDays, B: ClosedDays> Union<A, B> {
-    pub fn new(first: A, second: B) -> Union<A, B>
-        ensures { λ r. ⌜ (r .first ≡ first) × (r .second ≡ second) ⌝ }
-    {
-        Union { first, second }
-    }
+    pub first: A,
+    pub second: B,
 }
 
 pub impl<A: ClosedDays, B: ClosedDays> ClosedDays for Union<A, B> as UnionClosed {

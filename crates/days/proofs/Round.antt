@@ -173,17 +173,17 @@ days-follow =
 
 -- what the code adds up and takes off, as a date and as a number
 pub date-found :
-    (n k i : ℕ) (leaps : Bool) (before-year before-month : ℕ) → n ≤ last-day → leaps ≡ leap (1900 + k) →
+    (n k i : ℕ) (leaps : Bool) (before-year before-month y m d : ℕ) → n ≤ last-day → leaps ≡ leap (1900 + k) →
     (k < 300) × Within year-span n k → before-year ≡ start-of year-span k →
     (i < 12) × Within (month-span leaps) (n - before-year) i → before-month ≡ start-of (month-span leaps) i →
-    Some (1900 + k, i + 1, n - before-year - before-month + 1) ≡ date-of n
-date-found n k i leaps before-year before-month in-range is-leap y is-year m is-month =
-    let p = settled n k i (y .0) (m .0) (y .1) (rw (is-leap, is-year) at (m .1)) in
+    y ≡ 1900 + k → m ≡ i + 1 → d ≡ n - before-year - before-month + 1 → Some (y, m, d) ≡ date-of n
+date-found n k i leaps before-year before-month y m d in-range is-leap in-year is-year in-month is-month ey em ed =
+    let p = settled n k i (in-year .0) (in-month .0) (in-year .1) (rw (is-leap, is-year) at (in-month .1)) in
     let before : before-month ≡ start-of (month-span (leap (1900 + k))) i = rw is-leap at is-month in
     let test = le-leb n last-day in-range in
-    let year : 1900 + k ≡ year-of n = sym (p .year) in
-    let month : i + 1 ≡ month-of n = omega arith in
-    let day : n - before-year - before-month + 1 ≡ day-of n = omega arith in
+    let year : y ≡ year-of n = omega arith in
+    let month : m ≡ month-of n = omega arith in
+    let day : d ≡ day-of n = omega arith in
     rw (test, year, month, day) refl
 
 pub no-date : (n : ℕ) → last-day < n → None ≡ date-of n

@@ -13,5 +13,17 @@ pub use dates::day_number;
 pub use dates::days_in_month;
 pub use dates::month_end;
 pub use refusal::Layer;
+pub use refusal::LayerDebug;
+pub use refusal::LayerEq;
+pub use refusal::LayerPartialEq;
 pub use refusal::Refusal;
+pub use refusal::RefusalDebug;
+pub use refusal::RefusalEq;
+pub use refusal::RefusalPartialEq;
 pub use week::Weekday;
+pub use week::WeekdayDebug;
+pub use week::WeekdayEq;
+pub use week::WeekdayPartialEq;
+
+#[cfg(test)]
+mod tests;

@@ -1,3 +1,4 @@
+use borrow.Author.Needs.{needs}
 use native.Mathlib.Omega.{arith}
 use Rattle.days.proofs.EasterTable.{easter-sunday, no-easter, easter-found}
 use Rattle.days.proofs.Round.{lossless}
@@ -19,6 +20,6 @@ pub returns : need.returns
 returns c =
     let march = c .in-Continue-march-21 .ensures tt .value in
     record {
-      value = easter-found (c .args .year) _ _ (march .0) (march .1) (c .days-after-march-21 .ensures .value);
+      value = easter-found (c .args .year) _ _ (march .0) (march .1) (search needs);
       sunday = easter-sunday;
     }

@@ -16,8 +16,9 @@ pub returns : need.returns
 returns c =
     record {
       value =
-          date-found (c .args .day) (c .year-index-index .result) (c .month-index-month .result) (c .is-leap-leaps .result) _ _
-          (c .if-day-gt-LAST-DAY .left) (c .is-leap-leaps .ensures) (c .year-index-index .ensures)
-          (c .days-before-year .ensures) (c .month-index-month .ensures) (c .days-before-month .ensures);
+          date-found (c .args .day) (c .year-index-index .result) (c .month-index-month .result) (c .is-leap-leaps .result)
+          (c .days-before-year .result) (c .days-before-month .result) _ _ _ (c .if-day-gt-LAST-DAY .left)
+          (c .is-leap-leaps .ensures) (c .year-index-index .ensures) (c .days-before-year .ensures)
+          (c .month-index-month .ensures) (c .days-before-month .ensures) (omega arith) (omega arith) (omega arith);
       lossless = lossless;
     }

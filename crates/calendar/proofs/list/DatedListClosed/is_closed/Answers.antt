@@ -1,3 +1,4 @@
+use borrow.Author.Needs.{needs}
 use mathlib.Core.Path.{_∙_}
 use Rattle.std.proofs.shelf.Elements.{has-from-contains}
 use Rattle.std.proofs.shelf.Ways.{same-from-decides}
@@ -10,6 +11,6 @@ returns-else-day-gt-LAST-DAY c =
     let days = c .args .self .now .days .now in
     let answer =
     same-from-decides (c .contains .result) (listed days (c .args .day))
-    (has-from-contains days (c .args .day) (c .contains .result) (c .contains .ensures .cases)) (listed-decides days (c .args .day))
+    (has-from-contains days (c .args .day) (c .contains .result) (search needs)) (listed-decides days (c .args .day))
     in
     answer ∙ within-range (listed days) (c .args .day) (c .if-day-gt-LAST-DAY .left)

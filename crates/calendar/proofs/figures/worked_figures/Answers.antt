@@ -1,0 +1,10 @@
+use mathlib.Core.Path.{refl}
+use Rattle.days.specs.Calendar.{leap, year-of, day-in-year, month-of, day-of}
+use Rattle.days.specs.Easter.{computus}
+use Rattle.days.specs.Spans.{start-of, span-from}
+use Rattle.calendar.specs.Rolling.{first-open, last-open}
+use Rattle.calendar.proofs.figures.worked_figures.Needs as need
+
+pub returns : need.returns
+unfolding leap start-of span-from year-of day-in-year month-of day-of computus first-open last-open
+returns c = record { count = refl; right = refl }
