@@ -1,18 +1,19 @@
 -- The bounds of a book, and that each call keeps them.
 -- Assumes nothing.
 use mathlib.Core.Path.{_≡_, refl, sym, ap, _∙_}
-use mathlib.Core.List.{List, [], _∷_, map}
-use Prim.Native.Nat.{ℕ, _+_, _-_, _*_, _/_, _%_, _^_, _≤_, _<_}
+use mathlib.Core.List.{List, [], _∷_, _++_, map}
+use Prim.Native.Nat.{ℕ, zero, suc, _+_, _-_, _*_, _/_, _%_, _^_, _≤_, _<_}
 use native.Mathlib.Nat.{add-mul, mul-le-mul, mul-le-mul-right, mod-lt}
 use native.Mathlib.Omega.{arith}
-use lib.ListN.{length, getD, set, length-map, length-set}
-use Rattle.std.specs.shelf.Lists.{sumBy}
-use Rattle.std.proofs.shelf.Sums.{sumBy-cons, sumBy-set, getD-le-sumBy}
+use lib.ListN.{length, getD, set, replicate, length-map, length-set}
+use Rattle.std.proofs.shelf.Lists.{length-append, length-replicate}
+use Rattle.std.specs.shelf.Lists.{sumBy, sum}
+use Rattle.std.proofs.shelf.Sums.{sumBy-cons, sumBy-append, sumBy-set, getD-le-sumBy}
 use Rattle.register.specs.declared.row.Row.{Row}
-use Rattle.register.specs.Rows.{accrued, posted, settled, gained, lost, worth, total-holding, total-ticks, total-worth, zero-row}
+use Rattle.register.specs.Rows.{accrued, posted, settled, gained, lost, worth, total-holding, total-ticks, total-worth, zero-row, opened-row, opened}
 use Rattle.register.proofs.Sweeps.{sumBy-below, units-below}
 
-pub sumBy-map : {X : Type 0} (f : X → ℕ) (g : X → X) (xs : List X) → sumBy f (map g xs) ≡ sumBy (λ x. f (g x)) xs
+pub sumBy-map : {X Y : Type 0} (f : Y → ℕ) (g : X → Y) (xs : List X) → sumBy f (map g xs) ≡ sumBy (λ x. f (g x)) xs
 sumBy-map f g [] = refl
 sumBy-map f g (x ∷ xs) =
     sumBy-cons f (g x) (map g xs) ∙ ap (λ n. f (g x) + n) (sumBy-map f g xs) ∙ sym (sumBy-cons (λ y. f (g y)) x xs)
@@ -84,15 +85,22 @@ accrue-bounded rows now tally period rate n b low within e =
       money = omega arith;
     }
 
+pub posted-ticks :
+    (rows now : List Row) (v : ℕ) → length rows ≡ 16 → 100000 ≤ v → v ≤ 36600000 → now ≡ map (posted v) rows →
+    total-ticks now ≤ 585600000
+posted-ticks rows now v room low high e =
+    let ticks : total-ticks now ≤ length rows * 36600000 =
+    rw (ap total-ticks e ∙ sumBy-map (λ r. r .ticks) (posted v) rows)
+    (sumBy-most (λ r. r .ticks % v) 36600000 (λ r. omega (arith, mod-lt (r .ticks) {m = v} (omega arith))) rows)
+    in
+    omega arith
+
 pub post-bounded :
     (rows now : List Row) (tally period v : ℕ) → Bounded rows tally period → 100000 ≤ v → v ≤ 36600000 →
     now ≡ map (posted v) rows → Bounded now tally period
 post-bounded rows now tally period v b low high e =
     let holdings : total-holding now ≡ total-holding rows = ap total-holding e ∙ sumBy-map (λ r. r .holding) (posted v) rows in
-    let ticks : total-ticks now ≤ length rows * 36600000 =
-    rw (ap total-ticks e ∙ sumBy-map (λ r. r .ticks) (posted v) rows)
-    (sumBy-most (λ r. r .ticks % v) 36600000 (λ r. omega (arith, mod-lt (r .ticks) {m = v} (omega arith))) rows)
-    in
+    let ticks = posted-ticks rows now v (b .room) low high e in
     let money : total-worth 100000 now ≤ total-worth 100000 rows =
     rw (ap (total-worth 100000) e ∙ sumBy-map (worth 100000) (posted v) rows)
     (sumBy-below (λ r. worth 100000 (posted v r)) (worth 100000) (λ r. omega (arith, units-below (r .ticks) v low)) rows)
@@ -201,3 +209,42 @@ settled-changes rows i r inside e =
     let p = ap (λ q. q .paid) e in
     let d = ap (λ q. q .due) e in
     changed-at rows (set rows i r) i 0 0 r inside refl (omega arith) t (omega arith)
+
+-- an opening: the rows hold what they are given, and no interest
+sum-zeros : (f : Row → ℕ) → f zero-row ≡ 0 → (n : ℕ) → sumBy f (replicate n zero-row) ≡ 0
+sum-zeros f none zero = refl
+sum-zeros f none (suc n) = sumBy-cons f zero-row (replicate n zero-row) ∙ omega (arith, none, sum-zeros f none n)
+
+pub sum-opened :
+    (f : Row → ℕ) (g : ℕ → ℕ) → f zero-row ≡ 0 → ((h : ℕ) → f (opened-row h) ≡ g h) → (holdings : List ℕ) →
+    sumBy f (opened holdings) ≡ sumBy g holdings
+sum-opened f g none each holdings =
+    sumBy-append f (map opened-row holdings) (replicate (16 - length holdings) zero-row)
+    ∙ omega
+    (arith, sumBy-map f opened-row holdings, sumBy-same (λ h. f (opened-row h)) g each holdings, sum-zeros f none (16 - length holdings))
+
+sum-none : (holdings : List ℕ) → sumBy (λ h. 0) holdings ≡ 0
+sum-none [] = refl
+sum-none (h ∷ hs) = sumBy-cons (λ k. 0) h hs ∙ omega (arith, sum-none hs)
+
+pub opened-bounded :
+    (holdings : List ℕ) (rows : List Row) → length holdings ≤ 16 → sum holdings ≤ 10000000000 → rows ≡ opened holdings → Bounded rows 0 0
+opened-bounded holdings rows few most e =
+    let held : total-holding rows ≡ sum holdings = ap total-holding e ∙ sum-opened (λ r. r .holding) (λ h. h) refl (λ h. refl) holdings in
+    let ticks : total-ticks rows ≡ 0 = ap total-ticks e ∙ sum-opened (λ r. r .ticks) (λ h. 0) refl (λ h. refl) holdings ∙ sum-none holdings in
+    let money : total-worth 100000 rows ≡ 0 =
+    ap (total-worth 100000) e ∙ sum-opened (worth 100000) (λ h. 0) refl (λ h. refl) holdings ∙ sum-none holdings
+    in
+    let long : length rows ≡ 16 =
+    ap length e
+    ∙ length-append (map opened-row holdings) (replicate (16 - length holdings) zero-row)
+    ∙ omega (arith, length-map holdings opened-row, length-replicate (16 - length holdings) zero-row)
+    in
+    record {
+      room = long;
+      counted = omega arith;
+      periods = omega arith;
+      nominal = omega arith;
+      carried = omega arith;
+      money = omega arith;
+    }

@@ -1,18 +1,18 @@
 -- A loop that changes each row in turn.
 -- Assumes nothing.
 use mathlib.Core.Path.{_≡_, refl, sym, ap, _∙_}
-use mathlib.Core.List.{List, [], _∷_, _++_, map, append-nil}
-use Prim.Native.Nat.{ℕ, _+_, _-_, _*_, _/_, _%_, _^_, _≤_, _<_}
+use mathlib.Core.List.{List, [], _∷_, _++_, map, append-nil, append-assoc}
+use Prim.Native.Nat.{ℕ, suc, _+_, _-_, _*_, _/_, _%_, _^_, _≤_, _<_}
 use native.Mathlib.Nat.{mul-le-mul-right, mul-le-mul-left}
 use native.Mathlib.Omega.{arith}
-use lib.ListN.{length, getD, set, take, drop, length-map}
+use lib.ListN.{length, getD, set, take, drop, replicate, length-map}
 use Rattle.std.specs.shelf.Lists.{sumBy}
-use Rattle.std.proofs.shelf.Lists.{getD-append-right, getD-drop, take-all, drop-all, length-take-le, length-append, length-drop, getD-default}
+use Rattle.std.proofs.shelf.Lists.{getD-append-right, getD-drop, take-all, drop-all, length-take-le, length-append, length-drop, getD-default, set-at, map-more}
 use Rattle.std.proofs.shelf.Edits.{map-over-more}
 use Rattle.std.proofs.shelf.Sums.{getD-le-sumBy, sumBy-cons, sumBy-more, sumBy-take-le}
 use Rattle.std.proofs.shelf.Bits.{div-add-mod'}
 use Rattle.register.specs.declared.row.Row.{Row}
-use Rattle.register.specs.Rows.{zero-row, worth, total-holding, total-ticks, total-worth, total-units}
+use Rattle.register.specs.Rows.{zero-row, worth, total-holding, total-ticks, total-worth, total-units, opened-row, opened}
 
 -- the rows after i turns, of which each changed one
 abbrev pub swept : (Row → Row) → List Row → ℕ → List Row
@@ -92,3 +92,28 @@ units-fit rows i v units more less h room e f =
     let part = sumBy-take-le (λ r. r .ticks / v) rows (i + 1) in
     let all = sumBy-below (λ r. r .ticks / v) (λ r. r .ticks) (λ r. units-below (r .ticks) v h .1) rows in
     (omega arith, omega arith)
+
+-- rows that are opened one after another
+abbrev pub opening-rows : List ℕ → ℕ → List Row
+opening-rows holdings i = map opened-row (take i holdings) ++ replicate (16 - i) zero-row
+
+pub opened-more :
+    (holdings : List ℕ) (rows : List Row) (i : ℕ) → i < length holdings → length holdings ≤ 16 →
+    rows ≡ opening-rows holdings i → set rows i (opened-row (getD holdings i 0)) ≡ opening-rows holdings (i + 1)
+opened-more holdings rows i less few e =
+    let front : length (map opened-row (take i holdings)) ≡ i =
+    length-map (take i holdings) opened-row ∙ length-take-le i holdings (omega arith)
+    in
+    let count : 16 - i ≡ suc (16 - (i + 1)) = omega arith in
+    let row = opened-row (getD holdings i 0) in
+    let more = map-more opened-row holdings i 0 less in
+    rw e
+    (rw count
+    (set-at (map opened-row (take i holdings)) zero-row (replicate (16 - (i + 1)) zero-row) row i front
+    ∙ rw more (sym (append-assoc (map opened-row (take i holdings)) (row ∷ []) (replicate (16 - (i + 1)) zero-row)))))
+
+pub opened-all :
+    (holdings : List ℕ) (rows : List Row) (i : ℕ) → i ≡ length holdings → rows ≡ opening-rows holdings i → rows ≡ opened holdings
+opened-all holdings rows i end e =
+    let all = take-all (length holdings) holdings (omega arith) in
+    e ∙ rw (end, all) refl

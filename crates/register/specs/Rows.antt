@@ -1,7 +1,7 @@
 -- The rows of a register: what one call does to one of them.
 -- Assumes nothing.
-use mathlib.Core.List.{List}
-use lib.ListN.{getD, set}
+use mathlib.Core.List.{List, _++_, map}
+use lib.ListN.{getD, set, length, replicate}
 use Rattle.std.specs.shelf.Lists.{sumBy}
 use Prim.Native.Nat.{ℕ, _+_, _-_, _*_, _/_, _%_}
 use Rattle.register.specs.declared.row.Row.{Row}
@@ -59,3 +59,10 @@ moved from to amount rows =
 
 abbrev pub paid-out : ℕ → List Row → List Row
 paid-out i rows = set rows i (settled (at rows i))
+
+-- the rows of an opening: one for each holding, and sixteen in all
+abbrev pub opened-row : ℕ → Row
+opened-row holding = record { holding = holding; paid = 0; due = 0; ticks = 0 }
+
+abbrev pub opened : List ℕ → List Row
+opened holdings = map opened-row holdings ++ replicate (16 - length holdings) zero-row

@@ -3,15 +3,18 @@ ghost use mathlib.Core.Path.{_≡_};
 ghost use mathlib.Core.List.{map};
 ghost use Prim.Native.Nat.{_+_, _*_, _≤_, _<_};
 ghost use lib.ListN.{length, getD, set};
-ghost use Rattle.register.specs.Rows.{accrued, posted, settled, gained, lost, total-holding, total-ticks, total-worth, total-units, zero-row, moved, redeemed, paid-out};
+ghost use Rattle.std.specs.shelf.Lists.{sum};
+ghost use Rattle.register.specs.Rows.{accrued, posted, settled, gained, lost, total-holding, total-ticks, total-worth, total-units, zero-row, moved, redeemed, paid-out, opened};
 use crate::row::Row;
 use crate::rows::accrue_rows;
 use crate::rows::post_rows;
+use crate::rows::rows_of;
 
 pub(crate) const MOST_HOLDERS: usize = 16;
 
 // The tally is the count so far in the current period. A period counts at most three years of 366 days, and a
 // holding times a rate is at most 500,000,000,000,000 ticks a counted day: from these the bounds follow.
+#[derive(Drop)]
 pub(crate) struct Book {
     pub(crate) rows: [Row; 16],
     pub(crate) tally: u64,
@@ -95,5 +98,19 @@ impl Book {
         ensures period { λ _. ⌜ now (self .exit) .period ≡ now (self .entry) .period ⌝ }
     {
         self.rows[holder].settle()
+    }
+
+    // Rows for holdings that add to at most the largest nominal.
+    pub(crate) fn opened(holdings: &[u64]) -> Book
+        requires few { ⌜ length (now holdings) ≤ 16 ⌝ }
+        requires nominal { ⌜ sum (now holdings) ≤ 10000000000 ⌝ }
+        ensures rows { λ r. ⌜ r .rows ≡ opened (now (holdings .entry)) ⌝ }
+        ensures start { λ r. ⌜ (r .tally ≡ 0) × (r .period ≡ 0) ⌝ }
+    {
+        Book {
+            rows: rows_of(holdings),
+            tally: 0,
+            period: 0,
+        }
     }
 }

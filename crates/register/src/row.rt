@@ -1,7 +1,7 @@
 // One holder's row.
 ghost use mathlib.Core.Path.{_≡_};
 ghost use Prim.Native.Nat.{_+_, _*_, _/_, _^_, _≤_, _<_};
-ghost use Rattle.register.specs.Rows.{accrued, posted, settled, gained, lost};
+ghost use Rattle.register.specs.Rows.{accrued, posted, settled, gained, lost, opened-row};
 
 // A holding in minor units of nominal; interest that was paid, that is due, and that is carried in ticks.
 #[derive(Clone, Copy)]
@@ -13,6 +13,17 @@ pub struct Row {
 }
 
 impl Row {
+    pub(crate) fn opened(holding: u64) -> Row
+        ensures { λ r. ⌜ r ≡ opened-row holding ⌝ }
+    {
+        Row {
+            holding,
+            paid: 0,
+            due: 0,
+            ticks: 0,
+        }
+    }
+
     pub(crate) fn accrue(&mut self, rate: u64, n: u64)
         requires { ⌜ now self .ticks + now self .holding * rate * n < 2 ^ 64 ⌝ ∗ ⌜ now self .holding * rate < 2 ^ 64 ⌝ }
         ensures { λ _. ⌜ now (self .exit) ≡ accrued rate n (now (self .entry)) ⌝ }
