@@ -6,3 +6,5 @@ pub mod Seen
 pub mod Accepted
 pub mod Counts
 pub mod Ruled
+pub mod Telescope
+pub mod Sound

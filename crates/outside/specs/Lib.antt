@@ -1,0 +1,4 @@
+pub mod Exactly
+pub mod Lines
+pub mod Figures
+pub mod Sources
