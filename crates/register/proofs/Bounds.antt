@@ -223,7 +223,7 @@ sum-opened f g none each holdings =
     ∙ omega
     (arith, sumBy-map f opened-row holdings, sumBy-same (λ h. f (opened-row h)) g each holdings, sum-zeros f none (16 - length holdings))
 
-sum-none : (holdings : List ℕ) → sumBy (λ h. 0) holdings ≡ 0
+pub sum-none : (holdings : List ℕ) → sumBy (λ h. 0) holdings ≡ 0
 sum-none [] = refl
 sum-none (h ∷ hs) = sumBy-cons (λ k. 0) h hs ∙ omega (arith, sum-none hs)
 

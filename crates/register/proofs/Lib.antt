@@ -8,3 +8,6 @@ pub mod Counts
 pub mod Ruled
 pub mod Telescope
 pub mod Sound
+pub mod Carry
+pub mod Law
+pub mod Carries

@@ -1,7 +1,7 @@
-// The calls on a register.
+// The rules of the calls: each is judged, and then changes the book.
 ghost use mathlib.Core.Path.{_≡_};
 ghost use Rattle.counts.specs.Counting.{asked};
-ghost use Rattle.register.specs.Calls.{advance as advance-call, transfer as transfer-call, redemption, posting, payment, opening, steady};
+ghost use Rattle.register.specs.Calls.{advance, transfer, redemption, posting, payment, opening, steady};
 ghost use Prim.Native.Nat.{_≤_};
 ghost use mathlib.Core.Bool.{true};
 ghost use lib.ListN.{length};
@@ -21,7 +21,7 @@ const TICKS: u64 = 100_000;
 
 impl<D: DayCount> Register<D> {
     // A holder's due is paid; answers it.
-    pub(crate) fn pay(&mut self, holder: u64) -> Result<u64, Refusal>
+    pub(crate) fn make_payment(&mut self, holder: u64) -> Result<u64, Refusal>
         ensures basis { λ _. ⌜ now (self .exit) .basis ≡ now (self .entry) .basis ⌝ }
         ensures rule { λ r. ⌜ Follows (asked (D·DayCount .counted (now (self .entry) .basis))) (D·DayCount .per) (view-of (now (self .entry))) (payment holder) (view-of (now (self .exit))) r ⌝ }
     {
@@ -32,7 +32,7 @@ impl<D: DayCount> Register<D> {
     }
 
     // An amount is taken off a holding; answers the amount.
-    pub(crate) fn redeem(&mut self, holder: u64, amount: u64) -> Result<u64, Refusal>
+    pub(crate) fn make_redemption(&mut self, holder: u64, amount: u64) -> Result<u64, Refusal>
         ensures basis { λ _. ⌜ now (self .exit) .basis ≡ now (self .entry) .basis ⌝ }
         ensures rule { λ r. ⌜ Follows (asked (D·DayCount .counted (now (self .entry) .basis))) (D·DayCount .per) (view-of (now (self .entry))) (redemption holder amount) (view-of (now (self .exit))) r ⌝ }
     {
@@ -44,9 +44,9 @@ impl<D: DayCount> Register<D> {
     }
 
     // An amount of holding goes from one holder to another; answers the amount.
-    pub(crate) fn transfer(&mut self, from: u64, to: u64, amount: u64) -> Result<u64, Refusal>
+    pub(crate) fn make_transfer(&mut self, from: u64, to: u64, amount: u64) -> Result<u64, Refusal>
         ensures basis { λ _. ⌜ now (self .exit) .basis ≡ now (self .entry) .basis ⌝ }
-        ensures rule { λ r. ⌜ Follows (asked (D·DayCount .counted (now (self .entry) .basis))) (D·DayCount .per) (view-of (now (self .entry))) (transfer-call from to amount) (view-of (now (self .exit))) r ⌝ }
+        ensures rule { λ r. ⌜ Follows (asked (D·DayCount .counted (now (self .entry) .basis))) (D·DayCount .per) (view-of (now (self .entry))) (transfer from to amount) (view-of (now (self .exit))) r ⌝ }
     {
         if let Some(refusal) = self.judge_transfer(from, to, amount) {
             return Err(refusal);
@@ -56,9 +56,9 @@ impl<D: DayCount> Register<D> {
     }
 
     // Interest accrues to a day; answers the counted days.
-    pub(crate) fn advance(&mut self, day: u32) -> Result<u64, Refusal>
+    pub(crate) fn make_advance(&mut self, day: u32) -> Result<u64, Refusal>
         ensures basis { λ _. ⌜ now (self .exit) .basis ≡ now (self .entry) .basis ⌝ }
-        ensures rule { λ r. ⌜ Follows (asked (D·DayCount .counted (now (self .entry) .basis))) (D·DayCount .per) (view-of (now (self .entry))) (advance-call day) (view-of (now (self .exit))) r ⌝ }
+        ensures rule { λ r. ⌜ Follows (asked (D·DayCount .counted (now (self .entry) .basis))) (D·DayCount .per) (view-of (now (self .entry))) (advance day) (view-of (now (self .exit))) r ⌝ }
     {
         if let Some(refusal) = self.judge_advance(day) {
             return Err(refusal);
@@ -71,7 +71,7 @@ impl<D: DayCount> Register<D> {
     }
 
     // Whole units become due; answers their sum. On the day that ends it, the period ends.
-    pub(crate) fn post(&mut self) -> Result<u64, Refusal>
+    pub(crate) fn make_posting(&mut self) -> Result<u64, Refusal>
         ensures basis { λ _. ⌜ now (self .exit) .basis ≡ now (self .entry) .basis ⌝ }
         ensures rule { λ r. ⌜ Follows (asked (D·DayCount .counted (now (self .entry) .basis))) (D·DayCount .per) (view-of (now (self .entry))) (posting) (view-of (now (self .exit))) r ⌝ }
     {
@@ -87,7 +87,7 @@ impl<D: DayCount> Register<D> {
     }
 
     // An empty register is opened; answers the nominal.
-    pub(crate) fn open(
+    pub(crate) fn make_opening(
         &mut self,
         dates: &[u32],
         rate: u64,

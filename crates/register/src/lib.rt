@@ -1,5 +1,7 @@
 // The register of a bond: who holds it, and the interest of each holder.
+mod apply;
 mod book;
+mod call;
 mod calls;
 mod judge;
 mod row;
@@ -7,5 +9,6 @@ mod rows;
 mod state;
 mod terms;
 
+pub use call::Call;
 pub use row::Row;
 pub use state::Register;

@@ -11,7 +11,7 @@ use Rattle.register.proofs.Accepted.{advance-within}
 use Rattle.register.proofs.Counts.{asked-short}
 use Rattle.register.proofs.Dates.{next-date}
 use Rattle.register.proofs.Ruled.{advanced-view}
-use Rattle.register.proofs.state.Register.advance.Needs as need
+use Rattle.register.proofs.state.Register.make_advance.Needs as need
 
 pub accrue-requires : need.accrue-requires
 accrue-requires g c κs =

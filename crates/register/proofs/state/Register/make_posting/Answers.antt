@@ -7,7 +7,7 @@ use Rattle.register.specs.Rules.{seen-state}
 use Rattle.register.specs.Views.{view-of}
 use Rattle.register.proofs.Accepted.{posting-open}
 use Rattle.register.proofs.Bounds.{posted-ticks}
-use Rattle.register.proofs.state.Register.post.Needs as need
+use Rattle.register.proofs.state.Register.make_posting.Needs as need
 
 pub begin-requires : need.begin-requires
 begin-requires g c κs =

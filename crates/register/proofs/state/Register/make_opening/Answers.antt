@@ -2,7 +2,7 @@ use mathlib.Core.Path.{sym}
 use Rattle.register.specs.Rules.{seen-state}
 use Rattle.register.specs.Views.{view-of}
 use Rattle.register.proofs.Accepted.{opening-good}
-use Rattle.register.proofs.state.Register.open.Needs as need
+use Rattle.register.proofs.state.Register.make_opening.Needs as need
 
 pub fill-requires : need.fill-requires
 fill-requires g c κs =

@@ -4,7 +4,7 @@ use Rattle.register.specs.Rules.{seen-state}
 use Rattle.register.specs.Views.{view-of}
 use Rattle.register.proofs.Accepted.{payment-known}
 use Rattle.register.proofs.Seen.{known-below}
-use Rattle.register.proofs.state.Register.pay.Needs as need
+use Rattle.register.proofs.state.Register.make_payment.Needs as need
 
 pub pay-requires : need.pay-requires
 pay-requires g c κs =

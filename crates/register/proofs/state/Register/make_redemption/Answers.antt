@@ -4,7 +4,7 @@ use Rattle.register.specs.Rules.{seen-state}
 use Rattle.register.specs.Views.{view-of}
 use Rattle.register.proofs.Accepted.{redemption-known}
 use Rattle.register.proofs.Seen.{known-row}
-use Rattle.register.proofs.state.Register.redeem.Needs as need
+use Rattle.register.proofs.state.Register.make_redemption.Needs as need
 
 pub redeem-requires : need.redeem-requires
 redeem-requires g c κs =

@@ -4,7 +4,7 @@ use Rattle.register.specs.Rules.{seen-state}
 use Rattle.register.specs.Views.{view-of}
 use Rattle.register.proofs.Accepted.{transfer-known}
 use Rattle.register.proofs.Seen.{known-row, known-below}
-use Rattle.register.proofs.state.Register.transfer.Needs as need
+use Rattle.register.proofs.state.Register.make_transfer.Needs as need
 
 pub transfer-requires : need.transfer-requires
 transfer-requires g c κs =
