@@ -11,3 +11,5 @@ pub mod Sound
 pub mod Carry
 pub mod Law
 pub mod Carries
+pub mod Runs
+pub mod Playing

@@ -1,10 +1,12 @@
 -- Views after a call, field by field.
 -- Assumes nothing.
 use mathlib.Core.Path.{_≡_, refl}
-use mathlib.Core.List.{List, map}
+use mathlib.Core.List.{List, [], map}
+use lib.ListN.{take}
+use Rattle.register.specs.Runs.{fresh-view}
 use Prim.Native.Nat.{ℕ, _+_}
 use Rattle.register.specs.declared.row.Row.{Row}
-use Rattle.register.specs.Calls.{advance, opening}
+use Rattle.register.specs.Calls.{advance}
 use Rattle.register.specs.Rows.{accrued, opened}
 use Rattle.register.specs.Rules.{View, days-on, ruled}
 
@@ -23,3 +25,10 @@ pub advanced-view :
     ≡ ruled count per v (advance day)
 advanced-view count per v day n rows tally period e rows-are tally-is period-is =
     rw (rows-are, tally-is, period-is, e) refl
+
+pub new-view :
+    (dates : List ℕ) (len rate : ℕ) (rows : List Row) (period tally : ℕ) → len ≡ 0 → rate ≡ 0 → rows ≡ opened [] → period ≡ 0 →
+    tally ≡ 0 →
+    record { dates = take len dates; rate = rate; holders = 0; rows = rows; today = 0; period = period; tally = tally } ≡ fresh-view
+new-view dates len rate rows period tally none low rows-are period-is tally-is =
+    rw (none, low, rows-are, period-is, tally-is) refl
