@@ -17,6 +17,9 @@ pub struct BondBasis;
 #[derive(Clone, Copy)]
 pub struct European;
 
+// Twelve months of thirty days.
+const DAYS_A_YEAR: u32 = 360;
+
 fn cut_to_thirty(day: u32) -> u32
     ensures { λ r. ⌜ r ≡ cut day ⌝ }
 {
@@ -88,7 +91,7 @@ fn bond_days(a: u32, b: u32) -> u32
 }
 
 pub impl DayCount for BondBasis as BondBasisCount {
-    const DENOMINATOR: u32 = 360;
+    const DENOMINATOR: u32 = DAYS_A_YEAR;
 
     ghost counted = { λ _. bond };
 
@@ -117,7 +120,7 @@ fn european_days(a: u32, b: u32) -> u32
 }
 
 pub impl DayCount for European as EuropeanCount {
-    const DENOMINATOR: u32 = 360;
+    const DENOMINATOR: u32 = DAYS_A_YEAR;
 
     ghost counted = { λ _. european };
 

@@ -27,8 +27,9 @@ advanced-view count per v day n rows tally period e rows-are tally-is period-is 
     rw (rows-are, tally-is, period-is, e) refl
 
 pub new-view :
-    (dates : List ℕ) (len rate : ℕ) (rows : List Row) (period tally : ℕ) → len ≡ 0 → rate ≡ 0 → rows ≡ opened [] → period ≡ 0 →
-    tally ≡ 0 →
-    record { dates = take len dates; rate = rate; holders = 0; rows = rows; today = 0; period = period; tally = tally } ≡ fresh-view
-new-view dates len rate rows period tally none low rows-are period-is tally-is =
-    rw (none, low, rows-are, period-is, tally-is) refl
+    (dates : List ℕ) (len rate holders : ℕ) (rows : List Row) (today period tally : ℕ) → len ≡ 0 → rate ≡ 0 → holders ≡ 0 →
+    rows ≡ opened [] → today ≡ 0 → period ≡ 0 → tally ≡ 0 →
+    record { dates = take len dates; rate = rate; holders = holders; rows = rows; today = today; period = period; tally = tally }
+    ≡ fresh-view
+new-view dates len rate holders rows today period tally none low no-one rows-are today-is period-is tally-is =
+    rw (none, low, no-one, rows-are, today-is, period-is, tally-is) refl

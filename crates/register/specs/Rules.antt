@@ -24,6 +24,9 @@ abbrev pub seen-state : View → State
 seen-state v =
     record { dates = v .dates; holdings = map (λ r. r .holding) (take (v .holders) (v .rows)); today = v .today; period = v .period }
 
+abbrev pub rows-in-use : View → List Row
+rows-in-use v = take (v .holders) (v .rows)
+
 -- the ticks of one unit of money
 abbrev pub unit : ℕ → ℕ
 unit per = 100000 * per

@@ -25,7 +25,7 @@ fn answer_of<D: DayCount>(register: &mut Register<D>, call: &Call) -> Answer
 
 // Plays calls on a new register, as many as there is room for answers, and gives back the register as they leave it.
 // Each answer goes to the place of its call.
-pub(crate) fn play<D: DayCount>(basis: D, calls: &[Call], answers: &mut [Answer]) -> Register<D>
+pub fn play<D: DayCount>(basis: D, calls: &[Call], answers: &mut [Answer]) -> Register<D>
     ensures basis { λ r. ⌜ r .basis ≡ basis ⌝ }
     ensures view { λ r. ⌜ view-of r ≡ run (asked (D·DayCount .counted basis)) (D·DayCount .per) fresh-view (played (now (calls .entry)) (now (answers .entry))) ⌝ }
     ensures answers { λ _. ⌜ map seen-answer (now (answers .exit)) ≡ outcomes (asked (D·DayCount .counted basis)) (D·DayCount .per) fresh-view (played (now (calls .entry)) (now (answers .entry))) ++ drop (length (now (calls .entry))) (map seen-answer (now (answers .entry))) ⌝ }

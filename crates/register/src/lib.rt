@@ -14,5 +14,6 @@ mod terms;
 
 pub use answer::Answer;
 pub use call::Call;
+pub use history::play;
 pub use row::Row;
 pub use state::Register;

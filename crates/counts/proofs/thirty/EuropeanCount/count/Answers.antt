@@ -1,5 +1,6 @@
+use borrow.Author.Needs.{needs}
 use Rattle.counts.proofs.Places.{european-by-formula}
 use Rattle.counts.proofs.thirty.EuropeanCount.count.Needs as need
 
 pub returns : need.returns
-returns c = record { value = c .european-days .ensures; formula = european-by-formula }
+returns c = record { value = search needs; formula = european-by-formula }

@@ -1,3 +1,4 @@
+use borrow.Author.Needs.{needs}
 use mathlib.Core.Path.{_≡_, refl, sym, _∙_, ap}
 use Prim.Native.Nat.{_+_, _-_, _≤_}
 use native.Mathlib.Omega.{arith}
@@ -45,7 +46,7 @@ returns g c =
       rule = (
         sym (c .in-rest .ensures tt),
         advanced-view count (g .D·DayCount .per) v (c .args .day) (c .saturating-sub-n .result) (c .accrue .last .self .rows)
-            (c .accrue .last .self .tally) (c .accrue .last .self .period) n (c .accrue .ensures .rows) (c .accrue .ensures .tally)
+            (c .accrue .last .self .tally) (c .accrue .last .self .period) n (search needs) (c .accrue .ensures .tally)
             (c .accrue .ensures .period),
         n,
       );

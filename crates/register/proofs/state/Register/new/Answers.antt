@@ -1,3 +1,4 @@
+use native.Mathlib.Omega.{arith}
 use mathlib.Core.Path.{refl}
 use Rattle.register.proofs.Ruled.{new-view}
 use Rattle.register.proofs.Runs.{fresh-after}
@@ -8,8 +9,9 @@ returns g c =
     let terms = c .none .result in
     let book = c .opened .result in
     let view =
-    new-view (terms .dates) (terms .len) (terms .rate) (book .rows) (book .period) (book .tally) (c .none .ensures .0)
-    (c .none .ensures .1) (c .opened .ensures .rows) (c .opened .ensures .start .1) (c .opened .ensures .start .0)
+    new-view (terms .dates) (terms .len) (terms .rate) _ (book .rows) _ (book .period) (book .tally) (c .none .ensures .0)
+    (c .none .ensures .1) (omega arith) (c .opened .ensures .rows) (omega arith) (c .opened .ensures .start .1)
+    (c .opened .ensures .start .0)
     in
     record {
       basis = refl;

@@ -1,0 +1,10 @@
+pub mod MonthStarts
+pub mod Counts
+pub mod Inners
+pub mod FortyYears
+pub mod Gaps
+pub mod Makes
+pub mod Periods
+pub mod Readings
+pub mod Moves
+pub mod Law
