@@ -1,8 +1,10 @@
 // What a call answered.
-ghost use mathlib.Core.Path.{_≡_};
 use days::Refusal;
+use days::RefusalDebug;
+use days::RefusalEq;
+use days::RefusalPartialEq;
 
-#[derive(Clone, Copy)]
+#[derive(Clone, Copy, PartialEq, Eq, Debug)]
 pub enum Answer {
     Accepted(u64),
     Refused(Refusal),
