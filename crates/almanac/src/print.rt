@@ -7,11 +7,11 @@ use calendar::EasterRuleClosed;
 use calendar::UnionClosed;
 use calendar::WeekdayPatternClosed;
 use calendar::weekends_and_easter;
-use calendar::worked_figures;
 use days::Weekday;
 use days::date_of;
 use days::day_number;
 use days::easter;
+use figures::worked_figures;
 use std::fmt;
 use std::io;
 

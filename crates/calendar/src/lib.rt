@@ -1,7 +1,6 @@
 // Closed-day sets, and the rolling of days off them.
 mod closed;
 mod common;
-mod figures;
 mod list;
 mod movable;
 mod pattern;
@@ -10,7 +9,6 @@ mod union;
 
 pub use closed::ClosedDays;
 pub use common::weekends_and_easter;
-pub use figures::worked_figures;
 pub use list::DatedList;
 pub use list::DatedListClosed;
 pub use movable::EasterRule;

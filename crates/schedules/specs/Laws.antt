@@ -34,7 +34,7 @@ pub record WellFormed (deal : Deal) : Type 0 where
       (deal .months ≡ 1)
       ⊎ ((deal .months ≡ 2) ⊎ ((deal .months ≡ 3) ⊎ ((deal .months ≡ 4) ⊎ ((deal .months ≡ 6) ⊎ (deal .months ≡ 12)))))
 
--- the day of x is that of the date counted from, or the last of a shorter month
+-- x has the anchor's day of the month, cut to the length of its own month
 abbrev pub SameDay : ℕ → ℕ → Type 0
 SameDay anchor x = day-of x ≡ min (day-of anchor) (month-length (year-of x) (month-of x))
 

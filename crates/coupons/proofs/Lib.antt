@@ -1,0 +1,2 @@
+pub mod FirstDate
+pub mod Room
