@@ -1,4 +1,6 @@
 // Prints what a proofreader checks of a year before its wall sheet goes to print.
+#![tactic(auto)]
+
 mod print;
 mod sheet;
 mod year;

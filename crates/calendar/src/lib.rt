@@ -1,4 +1,6 @@
 // Closed-day sets, and the rolling of days off them.
+#![tactic(auto)]
+
 mod closed;
 mod common;
 mod list;

@@ -1,4 +1,6 @@
 // Day counts: how many days of interest lie between two days, and how many make a year.
+#![tactic(auto)]
+
 mod actual;
 mod count;
 mod thirty;

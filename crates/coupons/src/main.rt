@@ -1,5 +1,7 @@
 // Plays half a year of a bond. After each call it prints what the register says, beside the interest that a journal of
 // evenings makes of the same calls.
+#![tactic(auto)]
+
 ghost use Rattle.std.specs.Prelude.{◌≤◌, length, IfOk};
 
 mod bond;

@@ -5,3 +5,4 @@ pub mod Months
 pub mod Round
 pub mod EasterTable
 pub mod Ends
+pub mod Parts

@@ -1,4 +1,6 @@
 // Day numbers, dates and Easter from 1900 to 2199, and the refusals that the whole ledger shares.
+#![tactic(auto)]
+
 mod computus;
 mod dates;
 mod refusal;

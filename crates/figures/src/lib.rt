@@ -1,4 +1,6 @@
 // The worked figures that the rules of the ledger are proved to yield.
+#![tactic(auto)]
+
 ghost use Rattle.std.specs.Prelude.{◌≡◌, true, length};
 ghost use Rattle.figures.specs.Table.{table, all_right};
 

@@ -1,4 +1,6 @@
 // Compares the library with figures that other programs made, and prints where they differ.
+#![tactic(auto)]
+
 mod figures;
 mod finding;
 mod library;

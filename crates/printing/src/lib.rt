@@ -1,4 +1,6 @@
 // A statement: the reports on all deals of a text, one after another, or the line that tells its fault.
+#![tactic(auto)]
+
 ghost use Rattle.std.specs.Prelude.{◌≤◌};
 
 use anyhow::anyhow;

@@ -1,4 +1,6 @@
 // The register of a bond: who holds it, and the interest of each holder.
+#![tactic(auto)]
+
 mod answer;
 mod api;
 mod apply;

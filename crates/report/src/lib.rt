@@ -1,4 +1,6 @@
 // Reports on the deals of a text.
+#![tactic(auto)]
+
 mod api;
 mod calls;
 mod closings;

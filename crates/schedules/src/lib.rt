@@ -1,4 +1,6 @@
 // The schedule of a deal: its dates, rolled off closed days.
+#![tactic(auto)]
+
 mod dates;
 mod deal;
 mod months;

@@ -1,4 +1,6 @@
 // Shows the day that is lost where interest is counted anew from each transfer, and that the register keeps it.
+#![tactic(auto)]
+
 mod print;
 mod sale;
 mod shares;

@@ -1,4 +1,6 @@
 // Reads a text of deals from standard input, and prints its statement.
+#![tactic(auto)]
+
 use printing::print_statement;
 use std::io::Read;
 

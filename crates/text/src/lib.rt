@@ -1,4 +1,6 @@
 // Texts of deals: what each line says, or which line is the first that says nothing.
+#![tactic(auto)]
+
 mod at;
 mod basis;
 mod body;

@@ -1,4 +1,6 @@
 // Lines of text in buffers that the caller lends: each line is written whole or not at all.
+#![tactic(auto)]
+
 mod dates;
 mod draft;
 mod laying;

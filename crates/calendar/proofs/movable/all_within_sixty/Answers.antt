@@ -4,12 +4,12 @@ use Rattle.std.proofs.lemmas.Int.{to_z-of_z}
 use Rattle.calendar.specs.Kinds.{within_sixty, all_within_sixty}
 use Rattle.calendar.proofs.movable.all_within_sixty.Goals as goal
 
-pub returns-then-not-is-within-sixty : goal.returns-then-not-is-within-sixty
-returns-then-not-is-within-sixty c =
+pub returns-then-not-is_within_sixty : goal.returns-then-not-is_within_sixty
+returns-then-not-is_within_sixty c =
     let xs = c.args.offsets.now in
     let i = c.loop-offset.offset-index in
     let fits : SFits w32 (get_or xs i (pos 0)) = search rules in
-    let out : false ≡ within_sixty (get_or xs i (pos 0)) = simp to_z-of_z at c.if-not-is-within-sixty.ensures in
+    let out : false ≡ within_sixty (get_or xs i (pos 0)) = simp to_z-of_z at c.if-not-is_within_sixty.ensures in
     let step : all_within_sixty (drop i xs) ≡ (within_sixty (get_or xs i (pos 0)) && all_within_sixty (drop (i + 1) xs)) =
     at_drop_more all_within_sixty xs i (pos 0) c.loop-offset-test.true
     in
@@ -20,7 +20,7 @@ loop-offset-preserved c =
     let xs = c.args.offsets.now in
     let i = c.loop-offset.offset-index in
     let fits : SFits w32 (get_or xs i (pos 0)) = search rules in
-    let in_range : true ≡ within_sixty (get_or xs i (pos 0)) = simp to_z-of_z at c.if-not-is-within-sixty.ensures in
+    let in_range : true ≡ within_sixty (get_or xs i (pos 0)) = simp to_z-of_z at c.if-not-is_within_sixty.ensures in
     let step : all_within_sixty (drop i xs) ≡ (within_sixty (get_or xs i (pos 0)) && all_within_sixty (drop (i + 1) xs)) =
     at_drop_more all_within_sixty xs i (pos 0) c.loop-offset-test.true
     in

@@ -4,7 +4,7 @@ use Rattle.days.proofs.Checks.{some_tells}
 use Rattle.days.proofs.Ends.{end_after}
 use Rattle.calendar.proofs.rolling.roll_modified.Goals as goal
 
-pub first-open-requires : goal.first-open-requires
-first-open-requires g c =
-    let end = some_tells (leb c.args.day last_day) c.in-ok-end.end (month_end c.args.day) c.in-ok-end.ensures in
+pub first_open-requires : goal.first_open-requires
+first_open-requires g c =
+    let end = some_tells (leb c.args.day last_day) c.in_ok-end.end (month_end c.args.day) c.in_ok-end.ensures in
     omega (arith, end.1, end_after c.args.day c.requires)

@@ -4,9 +4,9 @@ use Rattle.counts.specs.Bases.{place, bond_second}
 use Rattle.counts.specs.Places.{bond_order}
 use Rattle.counts.proofs.thirty.bond_within.Goals as goal
 
-pub overflow-sub-result : goal.overflow-sub-result
-overflow-sub-result c =
+pub overflow_sub-result : goal.overflow_sub-result
+overflow_sub-result c =
     let b = c.args.b in
     let order = bond_order c.args.a b c.requires.0 c.requires.1 in
-    let second : c.place-of.result ≡ place (year_of b) (month_of b) (bond_second c.args.a b) = cc in
+    let second : c.place_of.result ≡ place (year_of b) (month_of b) (bond_second c.args.a b) = cc in
     omega arith

@@ -11,8 +11,8 @@ use Rattle.writing.proofs.laying.lay.Goals as goal
 long : (d : Draft) → length (text_of d) ≡ d.len
 long d = length-take-le d.len d.bytes (omega (arith, d.room, d.within))
 
-pub returns-then-line-saturating-sub : goal.returns-then-line-saturating-sub
-returns-then-line-saturating-sub c =
+pub returns-then-line-saturating_sub : goal.returns-then-line-saturating_sub
+returns-then-line-saturating_sub c =
     let text = text_of c.args.line.now in
     let out = c.args.out.now in
     record {

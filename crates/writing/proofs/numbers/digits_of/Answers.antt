@@ -6,8 +6,8 @@ pub loop-rest-init : goal.loop-rest-init
 loop-rest-init c =
     (refl, omega arith, omega arith, digits_first (replicate 20 0) c.args.n refl c.ranges.n.fits)
 
-pub overflow-sub-at : goal.overflow-sub-at
-overflow-sub-at c =
+pub overflow_sub-at : goal.overflow_sub-at
+overflow_sub-at c =
     let l = c.loop-rest in
     digits_room l.digits l.at l.rest c.args.n l.invariant.0 c.loop-rest-test.true l.invariant.2
     c.ranges.n.fits l.invariant.3

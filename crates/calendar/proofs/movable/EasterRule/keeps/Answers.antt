@@ -1,6 +1,7 @@
-use Rattle.std.proofs.Common.{◌≡◌, ◌-◌, eqb, take, arith, w32, SFits}
+use Rattle.std.proofs.Common.{◌≡◌, ◌-◌, take, arith, w32, SFits}
+use Rattle.std.specs.Ordering.{int_eq}
 use Rattle.std.proofs.lemmas.List.Elements.{contains_decides}
-use Rattle.std.proofs.lemmas.Bool.Decides.{same_from_decides, Decides-eqb}
+use Rattle.std.proofs.lemmas.Bool.Decides.{same_from_decides, Decides-int_eq}
 use Rattle.std.proofs.lemmas.Int.{to_z-of_z}
 use Rattle.calendar.specs.Kinds.{offset_listed}
 use Rattle.calendar.proofs.Members.{offset_decides}
@@ -15,4 +16,4 @@ returns c =
     let found = simp to_z-of_z at c.contains.ensures.cases in
     rw whole at
     (same_from_decides c.contains.result (offset_listed part c.args.offset)
-    (contains_decides eqb Decides-eqb part c.args.offset c.contains.result found) (offset_decides part c.args.offset))
+    (contains_decides int_eq Decides-int_eq part c.args.offset c.contains.result found) (offset_decides part c.args.offset))

@@ -4,5 +4,5 @@ use Rattle.calendar.proofs.movable.EasterRule.new.Goals as goal
 
 pub returns : goal.returns
 returns c =
-    let few = sym c.if-not-all-within-sixty.ensures in
+    let few = sym c.if-not-all_within_sixty.ensures in
     (c.padded.ensures, around c.args.offsets.now few, few, omega arith)
