@@ -4,4 +4,4 @@ use Rattle.outside.proofs.library.is_no_date.Goals as goal
 
 pub returns : goal.returns
 returns c =
-    none_decides (day_number c.args.figure) c.number-of.result c.is-none.result c.is-none.ensures c.number-of.ensures
+    none_decides (day_number c.args.figure) c.number_of.result c.is_none.result c.is_none.ensures c.number_of.ensures

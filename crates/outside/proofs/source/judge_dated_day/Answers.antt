@@ -5,4 +5,4 @@ pub returns-in-None : goal.returns-in-None
 returns-in-None c = unread c.in-None.ensures
 
 pub returns-in-Some-2 : goal.returns-in-Some-2
-returns-in-Some-2 c = wrong c.in-Some.day c.in-Some.ensures.1 c.if-is-dated-day.ensures
+returns-in-Some-2 c = wrong c.in-Some.day c.in-Some.ensures.1 c.if-is_dated_day.ensures

@@ -5,4 +5,4 @@ pub returns-in-None : goal.returns-in-None
 returns-in-None c = unread c.in-None.ensures
 
 pub returns-in-Some-2 : goal.returns-in-Some-2
-returns-in-Some-2 c = wrong c.in-Some.date c.in-Some.ensures.1 c.if-is-no-date.ensures
+returns-in-Some-2 c = wrong c.in-Some.date c.in-Some.ensures.1 c.if-is_no_date.ensures

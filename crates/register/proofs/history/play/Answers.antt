@@ -20,14 +20,14 @@ loop-i-preserved g c =
     let few : i < length cs = omega (arith, played_long calls before) in
     let more =
     played_more (asked (g.D.DayCount.counted c.new-register.result.basis)) g.D.DayCount.per cs fresh_view
-    v (view_of c.answer-of.new.register) i call before
-    c.loop-i.answers c.answer-of.result few (omega arith) (call_at calls before i (omega arith) (omega arith))
-    (c.answer-of.ensures.view ∙ ap (λ b. stepped (asked (g.D.DayCount.counted b)) g.D.DayCount.per v call) basis)
-    (c.answer-of.ensures.value ∙ ap (λ b. outcome (asked (g.D.DayCount.counted b)) g.D.DayCount.per v call) basis)
+    v (view_of c.answer_of.new.register) i call before
+    c.loop-i.answers c.answer_of.result few (omega arith) (call_at calls before i (omega arith) (omega arith))
+    (c.answer_of.ensures.view ∙ ap (λ b. stepped (asked (g.D.DayCount.counted b)) g.D.DayCount.per v call) basis)
+    (c.answer_of.ensures.value ∙ ap (λ b. outcome (asked (g.D.DayCount.counted b)) g.D.DayCount.per v call) basis)
     c.loop-i.invariant.1
     c.loop-i.invariant.2 c.loop-i.invariant.3
     in
-    (c.answer-of.ensures.basis ∙ basis, more.0, more.1, more.2)
+    (c.answer_of.ensures.basis ∙ basis, more.0, more.1, more.2)
 
 pub returns : goal.returns
 returns g c =

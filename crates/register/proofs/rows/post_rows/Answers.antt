@@ -24,8 +24,8 @@ summed c =
     units_fit rows i c.args.v c.loop-row.units c.post-units.result c.loop-row-test.true c.requires.unit
     c.requires.ticks c.loop-row.invariant.1 (c.post-units.ensures.value ∙ ap (λ r. r.ticks / c.args.v) same)
 
-pub overflow-add-units : goal.overflow-add-units
-overflow-add-units c = omega (arith, (summed c).1)
+pub overflow_add-units : goal.overflow_add-units
+overflow_add-units c = omega (arith, (summed c).1)
 
 pub loop-row-preserved : goal.loop-row-preserved
 loop-row-preserved c = (

@@ -12,7 +12,7 @@ returns c =
     let is_date = lossless.each_number_has_a_date n c.requires in
     let found =
     (some_tells (leb n last_day) c.unwrap-year.result (year_of n, month_of n, day_of n)
-    (sym c.unwrap-year.ensures ∙ c.date-of.ensures.value)).1
+    (sym c.unwrap-year.ensures ∙ c.date_of.ensures.value)).1
     in
     let y = ap (λ (t : ℕ × ℕ × ℕ). t.0) found in
     let m = ap (λ (t : ℕ × ℕ × ℕ). t.1) found in

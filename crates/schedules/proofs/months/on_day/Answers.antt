@@ -9,10 +9,10 @@ pub returns : goal.returns
 unfolding month_days on_day
 returns c =
     let length =
-    (found c.days-in-month.result c.unwrap-length.result _ _ c.unwrap-length.ensures c.days-in-month.ensures).1
+    (found c.days_in_month.result c.unwrap-length.result _ _ c.unwrap-length.ensures c.days_in_month.ensures).1
     in
     let number =
-    (found c.day-number.result c.unwrap.result _ _ c.unwrap.ensures c.day-number.ensures.value).1
+    (found c.day_number.result c.unwrap.result _ _ c.unwrap.ensures c.day_number.ensures.value).1
     in
     let cut = c.min.ensures in
     rw (← length, ← cut) number

@@ -5,22 +5,22 @@ use Rattle.schedules.specs.Dates.{dates}
 use Rattle.schedules.proofs.Makes.{refused_12, refused_13, accepted}
 use Rattle.schedules.proofs.scheduling.lay_out.Goals as goal
 
-pub returns-in-err-roll-dates : goal.returns-in-err-roll-dates
-returns-in-err-roll-dates g c =
+pub returns-in_err-roll_dates : goal.returns-in_err-roll_dates
+returns-in_err-roll_dates g c =
     let roll = rolled (g.S.ClosedDays.closed c.args.set.now) c.args.deal.now.convention in
-    let p = err_from_is_err_and c.from-residual.result c.from-residual.ensures.1 in
-    let why = c.in-err-roll-dates.ensures in
+    let p = err_from_is_err_and c.from_residual.result c.from_residual.ensures.1 in
+    let why = c.in_err-roll_dates.ensures in
     rw (p.1, p.2) (refused_12 roll (dates c.args.deal.now) c.args.table.now _ why.0 why.1 why.2)
 
 pub returns-in-Some : goal.returns-in-Some
 returns-in-Some g c =
     let roll = rolled (g.S.ClosedDays.closed c.args.set.now) c.args.deal.now.convention in
-    refused_13 roll (dates c.args.deal.now) c.args.table.now c.roll-dates.new.slots c.in-Some.index
-    (omega arith) c.in-ok-roll-dates.ensures c.in-Some.ensures
+    refused_13 roll (dates c.args.deal.now) c.args.table.now c.roll_dates.new.slots c.in-Some.index
+    (omega arith) c.in_ok-roll_dates.ensures c.in-Some.ensures
 
 pub returns : goal.returns
 returns g c =
     let roll = rolled (g.S.ClosedDays.closed c.args.set.now) c.args.deal.now.convention in
-    accepted roll (dates c.args.deal.now) c.args.table.now c.roll-dates.new.slots
-    c.copy-from-slice.new.self (omega arith) c.in-ok-roll-dates.ensures c.in-default.ensures
-    c.copy-from-slice.ensures.after
+    accepted roll (dates c.args.deal.now) c.args.table.now c.roll_dates.new.slots
+    c.copy_from_slice.new.self (omega arith) c.in_ok-roll_dates.ensures c.in_default.ensures
+    c.copy_from_slice.ensures.after

@@ -3,21 +3,21 @@ use Rattle.text.specs.Kinds.{number}
 use Rattle.text.proofs.BodySteps.{handed_on, taken, refused, ended, not_ended}
 use Rattle.text.proofs.body.read_payment.Goals as goal
 
-pub returns-in-err-holder : goal.returns-in-err-holder
-returns-in-err-holder c =
-    handed_on c.from-residual.result _ c.from-residual.ensures.1
+pub returns-in_err-holder : goal.returns-in_err-holder
+returns-in_err-holder c =
+    handed_on c.from_residual.result _ c.from_residual.ensures.1
     ∙ sym
-    (refused number _ c.args.fields.now _ _ c.in-err-holder.ensures.read)
+    (refused number _ c.args.fields.now _ _ c.in_err-holder.ensures.read)
 
-pub returns-in-err-end : goal.returns-in-err-end
-returns-in-err-end c =
-    handed_on c.from-residual-in-err-end.result _ c.from-residual-in-err-end.ensures.1
+pub returns-in_err-end : goal.returns-in_err-end
+returns-in_err-end c =
+    handed_on c.from_residual-in_err-end.result _ c.from_residual-in_err-end.ensures.1
     ∙ sym
-    (taken number _ c.args.fields.now c.number.new.self c.in-ok-holder.holder _ c.in-ok-holder.ensures.read c.in-ok-holder.ensures.same_line
-    ∙ not_ended c.number.new.self _ _ c.in-err-end.ensures)
+    (taken number _ c.args.fields.now c.number.new.self c.in_ok-holder.holder _ c.in_ok-holder.ensures.read c.in_ok-holder.ensures.same_line
+    ∙ not_ended c.number.new.self _ _ c.in_err-end.ensures)
 
 pub returns : goal.returns
 returns c =
     sym
-    (taken number _ c.args.fields.now c.number.new.self c.in-ok-holder.holder _ c.in-ok-holder.ensures.read c.in-ok-holder.ensures.same_line
-    ∙ ended c.number.new.self _ c.in-ok-end.ensures)
+    (taken number _ c.args.fields.now c.number.new.self c.in_ok-holder.holder _ c.in_ok-holder.ensures.read c.in_ok-holder.ensures.same_line
+    ∙ ended c.number.new.self _ c.in_ok-end.ensures)

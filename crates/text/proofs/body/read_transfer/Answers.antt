@@ -3,40 +3,40 @@ use Rattle.text.specs.Kinds.{number}
 use Rattle.text.proofs.BodySteps.{handed_on, taken, refused, ended, not_ended}
 use Rattle.text.proofs.body.read_transfer.Goals as goal
 
-pub returns-in-err-from : goal.returns-in-err-from
-returns-in-err-from c =
-    handed_on c.from-residual.result _ c.from-residual.ensures.1
+pub returns-in_err-from : goal.returns-in_err-from
+returns-in_err-from c =
+    handed_on c.from_residual.result _ c.from_residual.ensures.1
     ∙ sym
-    (refused number _ c.args.fields.now _ _ c.in-err-from.ensures.read)
+    (refused number _ c.args.fields.now _ _ c.in_err-from.ensures.read)
 
-pub returns-in-err-to : goal.returns-in-err-to
-returns-in-err-to c =
-    handed_on c.from-residual-in-err-to.result _ c.from-residual-in-err-to.ensures.1
+pub returns-in_err-to : goal.returns-in_err-to
+returns-in_err-to c =
+    handed_on c.from_residual-in_err-to.result _ c.from_residual-in_err-to.ensures.1
     ∙ sym
-    (taken number _ c.args.fields.now c.number.new.self c.in-ok-from.from _ c.in-ok-from.ensures.read c.in-ok-from.ensures.same_line
-    ∙ refused number _ c.number.new.self _ _ c.in-err-to.ensures.read)
+    (taken number _ c.args.fields.now c.number.new.self c.in_ok-from.from _ c.in_ok-from.ensures.read c.in_ok-from.ensures.same_line
+    ∙ refused number _ c.number.new.self _ _ c.in_err-to.ensures.read)
 
-pub returns-in-err-amount : goal.returns-in-err-amount
-returns-in-err-amount c =
-    handed_on c.from-residual-in-err-amount.result _ c.from-residual-in-err-amount.ensures.1
+pub returns-in_err-amount : goal.returns-in_err-amount
+returns-in_err-amount c =
+    handed_on c.from_residual-in_err-amount.result _ c.from_residual-in_err-amount.ensures.1
     ∙ sym
-    (taken number _ c.args.fields.now c.number.new.self c.in-ok-from.from _ c.in-ok-from.ensures.read c.in-ok-from.ensures.same_line
-    ∙ taken number _ c.number.new.self c.number-2.new.self c.in-ok-to.to _ c.in-ok-to.ensures.read c.in-ok-to.ensures.same_line
-    ∙ refused number _ c.number-2.new.self _ _ c.in-err-amount.ensures.read)
+    (taken number _ c.args.fields.now c.number.new.self c.in_ok-from.from _ c.in_ok-from.ensures.read c.in_ok-from.ensures.same_line
+    ∙ taken number _ c.number.new.self c.number-2.new.self c.in_ok-to.to _ c.in_ok-to.ensures.read c.in_ok-to.ensures.same_line
+    ∙ refused number _ c.number-2.new.self _ _ c.in_err-amount.ensures.read)
 
-pub returns-in-err-end : goal.returns-in-err-end
-returns-in-err-end c =
-    handed_on c.from-residual-in-err-end.result _ c.from-residual-in-err-end.ensures.1
+pub returns-in_err-end : goal.returns-in_err-end
+returns-in_err-end c =
+    handed_on c.from_residual-in_err-end.result _ c.from_residual-in_err-end.ensures.1
     ∙ sym
-    (taken number _ c.args.fields.now c.number.new.self c.in-ok-from.from _ c.in-ok-from.ensures.read c.in-ok-from.ensures.same_line
-    ∙ taken number _ c.number.new.self c.number-2.new.self c.in-ok-to.to _ c.in-ok-to.ensures.read c.in-ok-to.ensures.same_line
-    ∙ taken number _ c.number-2.new.self c.number-3.new.self c.in-ok-amount.amount _ c.in-ok-amount.ensures.read c.in-ok-amount.ensures.same_line
-    ∙ not_ended c.number-3.new.self _ _ c.in-err-end.ensures)
+    (taken number _ c.args.fields.now c.number.new.self c.in_ok-from.from _ c.in_ok-from.ensures.read c.in_ok-from.ensures.same_line
+    ∙ taken number _ c.number.new.self c.number-2.new.self c.in_ok-to.to _ c.in_ok-to.ensures.read c.in_ok-to.ensures.same_line
+    ∙ taken number _ c.number-2.new.self c.number-3.new.self c.in_ok-amount.amount _ c.in_ok-amount.ensures.read c.in_ok-amount.ensures.same_line
+    ∙ not_ended c.number-3.new.self _ _ c.in_err-end.ensures)
 
 pub returns : goal.returns
 returns c =
     sym
-    (taken number _ c.args.fields.now c.number.new.self c.in-ok-from.from _ c.in-ok-from.ensures.read c.in-ok-from.ensures.same_line
-    ∙ taken number _ c.number.new.self c.number-2.new.self c.in-ok-to.to _ c.in-ok-to.ensures.read c.in-ok-to.ensures.same_line
-    ∙ taken number _ c.number-2.new.self c.number-3.new.self c.in-ok-amount.amount _ c.in-ok-amount.ensures.read c.in-ok-amount.ensures.same_line
-    ∙ ended c.number-3.new.self _ c.in-ok-end.ensures)
+    (taken number _ c.args.fields.now c.number.new.self c.in_ok-from.from _ c.in_ok-from.ensures.read c.in_ok-from.ensures.same_line
+    ∙ taken number _ c.number.new.self c.number-2.new.self c.in_ok-to.to _ c.in_ok-to.ensures.read c.in_ok-to.ensures.same_line
+    ∙ taken number _ c.number-2.new.self c.number-3.new.self c.in_ok-amount.amount _ c.in_ok-amount.ensures.read c.in_ok-amount.ensures.same_line
+    ∙ ended c.number-3.new.self _ c.in_ok-end.ensures)

@@ -8,11 +8,11 @@ use Rattle.text.proofs.words.digits_value.Goals as goal
 pub loop-byte-init : goal.loop-byte-init
 loop-byte-init c = (refl, lit< tt)
 
-pub returns-then-not-is-ascii-digit : goal.returns-then-not-is-ascii-digit
-returns-then-not-is-ascii-digit c =
+pub returns-then-not-is_ascii_digit : goal.returns-then-not-is_ascii_digit
+returns-then-not-is_ascii_digit c =
     record {
       value =
-          sym (digits_stop c.args.digits.now c.loop-byte.byte-index c.loop-byte.value c.loop-byte-test.true c.if-not-is-ascii-digit.ensures.value)
+          sym (digits_stop c.args.digits.now c.loop-byte.byte-index c.loop-byte.value c.loop-byte-test.true c.if-not-is_ascii_digit.ensures.value)
           ∙ c.loop-byte.invariant.0;
       small = tt;
     }
@@ -23,17 +23,17 @@ longer :
     10 * n + (get_or xs i 0 - 48) < 10 ^ (i + 1)
 longer xs i n small e = grown n i (get_or xs i 0) small (digit_inside (get_or xs i 0) e)
 
-pub overflow-mul-value : goal.overflow-mul-value
-overflow-mul-value c = omega (arith, longer c.args.digits.now c.loop-byte.byte-index c.loop-byte.value c.loop-byte.invariant.1 c.if-not-is-ascii-digit.ensures.value, below_eleven (c.loop-byte.byte-index + 1) (omega arith))
+pub overflow_mul-value : goal.overflow_mul-value
+overflow_mul-value c = omega (arith, longer c.args.digits.now c.loop-byte.byte-index c.loop-byte.value c.loop-byte.invariant.1 c.if-not-is_ascii_digit.ensures.value, below_eleven (c.loop-byte.byte-index + 1) (omega arith))
 
-pub overflow-add-value : goal.overflow-add-value
-overflow-add-value c = omega (arith, longer c.args.digits.now c.loop-byte.byte-index c.loop-byte.value c.loop-byte.invariant.1 c.if-not-is-ascii-digit.ensures.value, below_eleven (c.loop-byte.byte-index + 1) (omega arith))
+pub overflow_add-value : goal.overflow_add-value
+overflow_add-value c = omega (arith, longer c.args.digits.now c.loop-byte.byte-index c.loop-byte.value c.loop-byte.invariant.1 c.if-not-is_ascii_digit.ensures.value, below_eleven (c.loop-byte.byte-index + 1) (omega arith))
 
 pub loop-byte-preserved : goal.loop-byte-preserved
 loop-byte-preserved c = (
-  sym (digits_more c.args.digits.now c.loop-byte.byte-index c.loop-byte.value c.loop-byte-test.true c.if-not-is-ascii-digit.ensures.value)
+  sym (digits_more c.args.digits.now c.loop-byte.byte-index c.loop-byte.value c.loop-byte-test.true c.if-not-is_ascii_digit.ensures.value)
       ∙ c.loop-byte.invariant.0,
-  longer c.args.digits.now c.loop-byte.byte-index c.loop-byte.value c.loop-byte.invariant.1 c.if-not-is-ascii-digit.ensures.value,
+  longer c.args.digits.now c.loop-byte.byte-index c.loop-byte.value c.loop-byte.invariant.1 c.if-not-is_ascii_digit.ensures.value,
 )
 
 pub returns : goal.returns

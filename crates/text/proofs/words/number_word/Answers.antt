@@ -13,6 +13,6 @@ returns c =
     ]
     in
     record {
-      value = c.digits-value.ensures.value ∙ number_by_digits word c.if-word-lt1.false c.if-word-gt-MOST-DIGITS.false front;
-      small = of_eleven c.digits-value.result (length word) c.if-word-gt-MOST-DIGITS.false c.digits-value.ensures.small;
+      value = c.digits_value.ensures.value ∙ number_by_digits word c.if-word-lt1.false c.if-word-gt-MOST_DIGITS.false front;
+      small = of_eleven c.digits_value.result (length word) c.if-word-gt-MOST_DIGITS.false c.digits_value.ensures.small;
     }

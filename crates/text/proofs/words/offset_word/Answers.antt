@@ -9,5 +9,5 @@ use Rattle.text.proofs.words.offset_word.Goals as goal
 pub returns : goal.returns
 returns c =
     let word = c.args.word.now in
-    c.signed.ensures ∙ ap (signed_said (get_or word 0 0)) (c.number-word.ensures.value ∙ ap number_said (take_rest word 1))
-    ∙ offset_by_sign word (omega (arith, eqb-false (length word) 0 (sym c.if-is-empty.ensures)))
+    c.signed.ensures ∙ ap (signed_said (get_or word 0 0)) (c.number_word.ensures.value ∙ ap number_said (take_rest word 1))
+    ∙ offset_by_sign word (omega (arith, eqb-false (length word) 0 (sym c.if-is_empty.ensures)))

@@ -16,13 +16,13 @@ returns-then-byte-ne49 c =
     sym (bits_stop xs i c.loop-byte.mask c.loop-byte-test.true (no_bit_test (get_or xs i 0) c.if-byte-ne48.true c.if-byte-ne49.true))
     ∙ c.loop-byte.invariant.0 ∙ pattern_by_bits xs c.if-word-ne7.false
 
-pub overflow-mul-mask : goal.overflow-mul-mask
-overflow-mul-mask c =
+pub overflow_mul-mask : goal.overflow_mul-mask
+overflow_mul-mask c =
     let i = c.loop-byte.byte-index in
     omega (arith, below_seven (i + 1) (omega arith), bits_grown c.loop-byte.mask i 48 c.loop-byte.invariant.1 (omega arith, omega arith))
 
-pub overflow-add-mask : goal.overflow-add-mask
-overflow-add-mask c =
+pub overflow_add-mask : goal.overflow_add-mask
+overflow_add-mask c =
     let b = get_or c.args.word.now c.loop-byte.byte-index 0 in
     let bit : IsInRange 48 49 b =
     elim c.else-byte-ne48.branch [

@@ -13,8 +13,8 @@ gain-requires c =
     let from = row_most s.rows s.tally s.period c.args.from (bounded s) c.requires.from in
     omega (arith, to.0, from.0, c.requires.covered)
 
-pub invariant-of-self : goal.invariant-of-self
-invariant-of-self c =
+pub invariant_of-self : goal.invariant_of-self
+invariant_of-self c =
     let s = c.args.self.now in
     let mid = set s.rows c.args.from c.lose.new.self in
     let inside : c.args.to < length mid = omega (arith, length-set s.rows c.args.from c.lose.new.self, s.room) in
@@ -24,4 +24,4 @@ invariant-of-self c =
     change_bounded s.rows _ s.tally s.period _ _ (bounded s)
     (changed_twice s.rows mid _ c.args.amount 0 0 c.args.amount first second) (omega arith)
     in
-    (b.room, (b.counted, (b.periods, (b.nominal, (b.carried, (b.money, tt))))))
+    record { room = b.room; counted = b.counted; periods = b.periods; nominal = b.nominal; carried = b.carried; money = b.money }

@@ -3,8 +3,8 @@ use Rattle.std.proofs.lemmas.Bool.{ne_eqb}
 use Rattle.register.proofs.Seen.{known_below, held_at}
 use Rattle.register.proofs.state.Register.is_uncovered.Goals as goal
 
-pub offset-bounds-self-holder : goal.offset-bounds-self-holder
-offset-bounds-self-holder g c =
+pub offset_bounds-self-holder : goal.offset_bounds-self-holder
+offset_bounds-self-holder g c =
     let s = c.args.self.now in
     let known = known_below s.holders s.book.rows c.args.holder (omega arith) c.requires in omega arith
 

@@ -14,7 +14,7 @@ pub accrue-requires : goal.accrue-requires
 accrue-requires g c =
     let s = c.args.self.now in
     let v = view_of s in
-    let within = advance_within (seen_state v) c.args.day (sym c.in-default.ensures) in
+    let within = advance_within (seen_state v) c.args.day (sym c.in_default.ensures) in
     let dates = take s.terms.len s.terms.dates in
     let inside = leb-false _ _ within.0 in
     let next = next_date dates s.terms.rising s.book.period (omega arith) in
@@ -23,7 +23,7 @@ accrue-requires g c =
     c.args.day (omega arith)
     in
     let counted : c.count-counted.result ≡ asked (g.D.DayCount.counted s.basis) (first v) c.args.day =
-    c.count-counted.ensures ∙ ap (λ a. asked (g.D.DayCount.counted s.basis) a c.args.day) c.first-date.ensures
+    c.count-counted.ensures ∙ ap (λ a. asked (g.D.DayCount.counted s.basis) a c.args.day) c.first_date.ensures
     in
     record { rate = s.terms.low; within = omega arith }
 
@@ -32,16 +32,16 @@ returns g c =
     let s = c.args.self.now in
     let v = view_of s in
     let count = asked (g.D.DayCount.counted s.basis) in
-    let n : c.saturating-sub-n.result ≡ days_on count v c.args.day =
-    c.saturating-sub-n.ensures
+    let n : c.saturating_sub-n.result ≡ days_on count v c.args.day =
+    c.saturating_sub-n.ensures
     ∙ ap (λ k. k - s.book.tally)
-    (c.count-counted.ensures ∙ ap (λ a. asked (g.D.DayCount.counted s.basis) a c.args.day) c.first-date.ensures)
+    (c.count-counted.ensures ∙ ap (λ a. asked (g.D.DayCount.counted s.basis) a c.args.day) c.first_date.ensures)
     in
     record {
       basis = refl;
       rule = (
-        sym c.in-default.ensures,
-        advanced_view count g.D.DayCount.per v c.args.day c.saturating-sub-n.result c.accrue.new.self.rows
+        sym c.in_default.ensures,
+        advanced_view count g.D.DayCount.per v c.args.day c.saturating_sub-n.result c.accrue.new.self.rows
             c.accrue.new.self.tally c.accrue.new.self.period n (search rules) c.accrue.ensures.tally
             c.accrue.ensures.period,
         n,

@@ -8,6 +8,6 @@ pub fill-requires : goal.fill-requires
 fill-requires g c =
     let good =
     opening_good (seen_state (view_of c.args.self.now)) c.args.dates.now c.args.rate c.args.holdings.now
-    (sym c.in-default.ensures)
+    (sym c.in_default.ensures)
     in
     record { some = good.1; few = good.2; low = good.4; rising = good.3; holders = good.5; nominal = good.6 }

@@ -10,11 +10,11 @@ use Rattle.register.proofs.state.Register.make_posting.Goals as goal
 pub begin-requires : goal.begin-requires
 begin-requires g c =
     let s = c.args.self.now in
-    let running = leb-false _ _ (posting_open (seen_state (view_of s)) (sym c.in-default.ensures)) in
+    let running = leb-false _ _ (posting_open (seen_state (view_of s)) (sym c.in_default.ensures)) in
     let long = length-take-le s.terms.len s.terms.dates (omega arith) in
     record {
       periods = omega arith;
       carried =
-          posted_ticks s.book.rows c.post-units.new.self.rows (100000 * c.per-year.result) s.book.room
+          posted_ticks s.book.rows c.post-units.new.self.rows (100000 * c.per_year.result) s.book.room
           (omega arith) (omega arith) c.post-units.ensures.rows;
     }

@@ -6,9 +6,9 @@ use Rattle.register.proofs.state.Register.pay.Goals as goal
 pub returns : goal.returns
 returns g c =
     let s = c.args.self.now in
-    let rule = c.make-payment.ensures.rule in
+    let rule = c.make_payment.ensures.rule in
     record {
-      basis = c.make-payment.ensures.basis;
+      basis = c.make_payment.ensures.basis;
       rule = rule;
       law =
           carries_on (g.D.DayCount.counted s.basis) g.D.DayCount.per (g.met.D.DayCount.lawful s.basis) (view_of s)

@@ -6,9 +6,9 @@ use Rattle.register.proofs.state.Register.post.Goals as goal
 pub returns : goal.returns
 returns g c =
     let s = c.args.self.now in
-    let rule = c.make-posting.ensures.rule in
+    let rule = c.make_posting.ensures.rule in
     record {
-      basis = c.make-posting.ensures.basis;
+      basis = c.make_posting.ensures.basis;
       rule = rule;
       law =
           carries_on (g.D.DayCount.counted s.basis) g.D.DayCount.per (g.met.D.DayCount.lawful s.basis) (view_of s)

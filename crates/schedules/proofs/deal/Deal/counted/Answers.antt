@@ -15,17 +15,17 @@ stays deal sound times h = (
   month_below deal.end sound.in_range,
 )
 
-pub overflow-mul-distance : goal.overflow-mul-distance
-overflow-mul-distance c = omega (arith, stays c.args.self.now c.requires.sound c.args.times c.requires.within)
+pub overflow_mul-distance : goal.overflow_mul-distance
+overflow_mul-distance c = omega (arith, stays c.args.self.now c.requires.sound c.args.times c.requires.within)
 
-pub overflow-sub-month : goal.overflow-sub-month
-overflow-sub-month c = omega (arith, stays c.args.self.now c.requires.sound c.args.times c.requires.within)
+pub overflow_sub-month : goal.overflow_sub-month
+overflow_sub-month c = omega (arith, stays c.args.self.now c.requires.sound c.args.times c.requires.within)
 
-pub overflow-add-month : goal.overflow-add-month
-overflow-add-month c = omega (arith, stays c.args.self.now c.requires.sound c.args.times c.requires.within)
+pub overflow_add-month : goal.overflow_add-month
+overflow_add-month c = omega (arith, stays c.args.self.now c.requires.sound c.args.times c.requires.within)
 
-pub on-day-requires-in-ShortLast : goal.on-day-requires-in-ShortLast
-on-day-requires-in-ShortLast c =
+pub on_day-requires-in-ShortLast : goal.on_day-requires-in-ShortLast
+on_day-requires-in-ShortLast c =
     record {
       some = omega arith;
       within = omega (arith, stays c.args.self.now c.requires.sound c.args.times c.requires.within);
@@ -34,9 +34,9 @@ on-day-requires-in-ShortLast c =
 pub returns-in-ShortFirst : goal.returns-in-ShortFirst
 returns-in-ShortFirst c =
     counted_back c.args.self.now c.args.times _ _ _ c.in-ShortFirst.is (omega arith)
-    c.month-and-day-month.ensures.day c.on-day.ensures
+    c.month_and_day-month.ensures.day c.on_day.ensures
 
 pub returns-in-ShortLast : goal.returns-in-ShortLast
 returns-in-ShortLast c =
     counted_forward c.args.self.now c.args.times _ _ _ c.in-ShortLast.is (omega arith)
-    c.month-and-day-month-in-ShortLast.ensures.day c.on-day-in-ShortLast.ensures
+    c.month_and_day-month-in-ShortLast.ensures.day c.on_day-in-ShortLast.ensures

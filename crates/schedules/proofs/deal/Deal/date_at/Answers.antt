@@ -16,8 +16,8 @@ returns-then-index-inside c =
     let long = inner_length deal c.requires.sound in
     sym (ap (λ j. get_or (dates deal) j 0) (omega arith) ∙ date_last deal c.requires.sound)
 
-pub overflow-add-inside : goal.overflow-add-inside
-overflow-add-inside c =
+pub overflow_add-inside : goal.overflow_add-inside
+overflow_add-inside c =
     let deal = c.args.self.now in omega (arith, inner_length deal c.requires.sound, inside_most deal c.requires.sound)
 
 pub counted-requires : goal.counted-requires

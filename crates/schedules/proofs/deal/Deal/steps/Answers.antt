@@ -3,8 +3,8 @@ use Rattle.schedules.specs.Dates.{steps}
 use Rattle.schedules.proofs.Counts.{months_rise}
 use Rattle.schedules.proofs.deal.Deal.steps.Goals as goal
 
-pub overflow-sub-result : goal.overflow-sub-result
-overflow-sub-result c = omega (arith, months_rise c.args.self.now c.requires)
+pub overflow_sub-result : goal.overflow_sub-result
+overflow_sub-result c = omega (arith, months_rise c.args.self.now c.requires)
 
 pub returns : goal.returns
 unfolding steps

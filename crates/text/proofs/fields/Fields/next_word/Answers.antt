@@ -4,10 +4,10 @@ use Rattle.text.proofs.fields.Fields.next_word.Goals as goal
 
 pub returns : goal.returns
 returns c =
-    let found = c.find-from-end.ensures in
+    let found = c.find_from-end.ensures in
     record {
       taken = (
-        next_word c.args.self.now.line.now c.args.self.now.from c.find-from-end.result found.after found.inside found.before found.found,
+        next_word c.args.self.now.line.now c.args.self.now.from c.find_from-end.result found.after found.inside found.before found.found,
         refl,
       );
       same_line = refl;
