@@ -1,6 +1,6 @@
 -- A date is told by its number, and Easter by its year.
 -- Assumes nothing.
-use Rattle.std.proofs.Common.{◌≡◌, ℕ, ◌&&◌, leb, Some, None, Option, refl, subst, leb-true}
+use Rattle.std.proofs.Common.{◌≡◌, ℕ, ◌&&◌, leb, Some, None, Option, MatchOption, sym, refl, subst, leb-true}
 use Rattle.std.proofs.lemmas.Bool.{and_parts}
 use Rattle.days.specs.Calendar.{IsDate, number_of}
 use Rattle.days.specs.Easter.{easter_of, easter_month, easter_day, easter_number}
@@ -67,3 +67,9 @@ easter_found sunday y n r e h =
     let p = year_tells y n e in
     let at = subst (λ (k : ℕ). Exactly r (λ date. Dated date × (day_number date ≡ k))) p.1 h in
     exactly_same r (easter_from_number sunday y p.0) (number_from_easter sunday y) at
+
+-- a number that is found where there is a date is found exactly
+pub number_exactly :
+    (P : Type 0) (m : ℕ) (r : Option ℕ) → MatchOption r (P → ⊥) (λ n. P × (n ≡ m)) → Exactly r (λ n. P × (m ≡ n))
+number_exactly P m None never = λ n right. never right.0
+number_exactly P m (Some n) is = ((is.0, sym is.1), λ k right. let here = right.1 in let there = is.1 in cc)

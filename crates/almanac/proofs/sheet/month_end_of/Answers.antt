@@ -4,11 +4,11 @@ use Rattle.days.specs.Calendar.{leap}
 use Rattle.almanac.proofs.sheet.month_end_of.Goals as goal
 
 -- a month has a last day, so that this exit is never taken
-pub returns-in-err-day : goal.returns-in-err-day
-returns-in-err-day g c =
-    let month = c.in-ok-length.ensures in
+pub returns-in_err-day : goal.returns-in_err-day
+returns-in_err-day g c =
+    let month = c.in_ok-length.ensures in
     absurd
-    (c.in-err-day.ensures.value
+    (c.in_err-day.ensures.value
     (record {
       month = month.0;
       day_from =

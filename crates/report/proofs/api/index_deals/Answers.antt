@@ -2,7 +2,7 @@ use Rattle.std.proofs.Common.{◌<◌, length, arith}
 use Rattle.report.proofs.DealPlaces.{terms_from_deal, no_terms_elsewhere}
 use Rattle.report.proofs.DealTable.{filled_none, filled_more, filled_more_no, filled_all}
 use Rattle.report.proofs.api.index_deals.Goals as goal
-use Rattle.report.proofs.api.index_deals.Goals.{in-Deal, in-default}
+use Rattle.report.proofs.api.index_deals.Goals.{in-Deal, in_default}
 
 pub loop-i-init : goal.loop-i-init
 loop-i-init c = filled_none
@@ -13,8 +13,8 @@ loop-i-preserved c =
     elim c.match-lines-i.branch [
       | in-Deal w ↦ simp (w.deals-is, w.count-is)
           (filled_more c.loop-i.invariant c.loop-i-test.true room (terms_from_deal _ _ w.in-Deal.is))
-      | in-default w ↦ simp (w.deals-is, w.count-is)
-          (filled_more_no c.loop-i.invariant c.loop-i-test.true (no_terms_elsewhere _ w.in-default.not-Deal))
+      | in_default w ↦ simp (w.deals-is, w.count-is)
+          (filled_more_no c.loop-i.invariant c.loop-i-test.true (no_terms_elsewhere _ w.in_default.not-Deal))
     ]
 
 pub returns : goal.returns

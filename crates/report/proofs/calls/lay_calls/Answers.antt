@@ -11,16 +11,16 @@ use Rattle.report.proofs.Calling.{call_step, call_ends, call_none}
 use Rattle.report.proofs.Onward.{onward_more, onward_stops, onward_done}
 use Rattle.report.proofs.calls.lay_calls.Goals as goal
 
-pub returns-in-default : goal.returns-in-default
-returns-in-default g c =
+pub returns-in_default : goal.returns-in_default
+returns-in_default g c =
     let lines = c.args.lines.now in
     let i = c.loop-i.i in
     let count = asked (g.D.DayCount.counted c.args.register.now.basis) in
     let v = view_of c.loop-i.register in
-    let v' = view_of c.call-on.new.register in
+    let v' = view_of c.call_on.new.register in
     let called =
     subst (λ b. Called (asked (g.D.DayCount.counted b)) g.D.DayCount.per v (call_in (part (get_or lines i Posting))) v' None)
-    c.loop-i.invariant.0 c.in-default.ensures.called
+    c.loop-i.invariant.0 c.in_default.ensures.called
     in
     let ends = call_ends count g.D.DayCount.per v v' lines c.args.number i (omega arith) called in
     record {
@@ -31,20 +31,20 @@ returns-in-default g c =
       left = ends.1 ∙ (sym ends.0.end ∙ c.loop-i.invariant.2);
     }
 
-pub returns-in-err-end : goal.returns-in-err-end
-returns-in-err-end g c =
+pub returns-in_err-end : goal.returns-in_err-end
+returns-in_err-end g c =
     let lines = c.args.lines.now in
     let i = c.loop-i.i in
     let count = asked (g.D.DayCount.counted c.args.register.now.basis) in
     let v = view_of c.loop-i.register in
-    let v' = view_of c.call-on.new.register in
+    let v' = view_of c.call_on.new.register in
     let answer = c.in-Some.answer in
     let called =
     subst (λ b. Called (asked (g.D.DayCount.counted b)) g.D.DayCount.per v (call_in (part (get_or lines i Posting))) v' (Some answer))
     c.loop-i.invariant.0 c.in-Some.ensures.called
     in
     let step = call_step count g.D.DayCount.per v v' lines c.args.number i answer (omega arith) called in
-    let p = err_from_is_err_and c.from-residual.result c.from-residual.ensures.1 in
+    let p = err_from_is_err_and c.from_residual.result c.from_residual.ensures.1 in
     rw (p.1, p.2)
     (record {
       laid =
@@ -52,7 +52,7 @@ returns-in-err-end g c =
           (call_lines count g.D.DayCount.per v' (numbered (c.args.number + (i + 1)) (leading call_in (drop (i + 1) lines))))
           c.loop-i.out c.loop-i.end
           (call_lines count g.D.DayCount.per (view_of c.args.register.now) (numbered c.args.number (leading call_in lines)))
-          c.args.out.now c.args.at _ _ _ step.0 c.answer-draft.ensures c.loop-i.invariant.1 c.in-err-end.ensures.laid;
+          c.args.out.now c.args.at _ _ _ step.0 c.answer_draft.ensures c.loop-i.invariant.1 c.in_err-end.ensures.laid;
       left = tt;
     })
 
@@ -62,19 +62,19 @@ loop-i-preserved g c =
     let i = c.loop-i.i in
     let count = asked (g.D.DayCount.counted c.args.register.now.basis) in
     let v = view_of c.loop-i.register in
-    let v' = view_of c.call-on.new.register in
+    let v' = view_of c.call_on.new.register in
     let answer = c.in-Some.answer in
     let called =
     subst (λ b. Called (asked (g.D.DayCount.counted b)) g.D.DayCount.per v (call_in (part (get_or lines i Posting))) v' (Some answer))
     c.loop-i.invariant.0 c.in-Some.ensures.called
     in
     let step = call_step count g.D.DayCount.per v v' lines c.args.number i answer (omega arith) called in (
-      c.call-on.ensures.basis ∙ c.loop-i.invariant.0,
+      c.call_on.ensures.basis ∙ c.loop-i.invariant.0,
       onward_more _ (answer_line (seen answer) (c.args.number + i))
           (call_lines count g.D.DayCount.per v' (numbered (c.args.number + (i + 1)) (leading call_in (drop (i + 1) lines))))
           c.loop-i.out c.loop-i.end
           (call_lines count g.D.DayCount.per (view_of c.args.register.now) (numbered c.args.number (leading call_in lines)))
-          c.args.out.now c.args.at _ _ _ step.0 c.answer-draft.ensures c.loop-i.invariant.1 c.in-ok-end.ensures.laid,
+          c.args.out.now c.args.at _ _ _ step.0 c.answer_draft.ensures c.loop-i.invariant.1 c.in_ok-end.ensures.laid,
       sym step.1 ∙ c.loop-i.invariant.2,
     )
 

@@ -5,11 +5,11 @@ use Rattle.report.proofs.Holders.{holding_more, holding_room, holdings_end, no_h
 use Rattle.report.proofs.OtherLines.{no_holding}
 use Rattle.report.proofs.deal.copy_holdings.Goals as goal
 
-pub returns-in-default : goal.returns-in-default
-returns-in-default c =
+pub returns-in_default : goal.returns-in_default
+returns-in_default c =
     let lines = c.args.lines.now in
     let i = c.loop-i.i in
-    let none = no_holding_at lines i (omega arith) (no_holding (get_or lines i Posting) c.in-default.not-Holding) in
+    let none = no_holding_at lines i (omega arith) (no_holding (get_or lines i Posting) c.in_default.not-Holding) in
     let end = holdings_end lines c.loop-i.holdings i c.loop-i.invariant.0 none c.loop-i.invariant.1 in
     record { count = end.0; copied = end.1; within = omega arith }
 

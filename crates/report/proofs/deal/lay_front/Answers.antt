@@ -10,51 +10,51 @@ use Rattle.report.specs.Reports.{front_view}
 use Rattle.report.proofs.Fronts.{schedule_here, refused_here, dates_in_range, front_stops, front_opens, front_refused, whatever}
 use Rattle.report.proofs.deal.lay_front.Goals as goal
 
-pub lay-dates-requires : goal.lay-dates-requires
-lay-dates-requires g c =
+pub lay_dates-requires : goal.lay_dates-requires
+lay_dates-requires g c =
     dates_in_range c.schedule.new.table c.in-Ok.count c.in-Ok.ensures.law.accepted.in_range
 
-pub returns-in-err-at : goal.returns-in-err-at
-returns-in-err-at g c =
+pub returns-in_err-at-in-Ok : goal.returns-in_err-at-in-Ok
+returns-in_err-at-in-Ok g c =
     let closed = g.S.ClosedDays.closed c.args.set.now in
     let terms = c.args.terms.now in
     let after = c.schedule.new.table in
     let is =
-    schedule_here closed c.deal-of.result (scheduled_deal terms) c.args.table.now after c.in-Ok.count
-    c.deal-of.ensures c.requires c.in-Ok.ensures.rule
+    schedule_here closed c.deal_of.result (scheduled_deal terms) c.args.table.now after c.in-Ok.count
+    c.deal_of.ensures c.requires c.in-Ok.ensures.rule
     in
-    let p = err_from_is_err_and c.from-residual.result c.from-residual.ensures.1 in
+    let p = err_from_is_err_and c.from_residual.result c.from_residual.ensures.1 in
     rw (p.1, p.2)
     (record {
       basis = refl;
       laid =
           front_stops (asked (g.D.DayCount.counted c.args.register.now.basis)) g.D.DayCount.per
           (view_of c.args.register.now) terms.rate.value c.args.holdings.now c.args.number
-          (scheduled closed (scheduled_deal terms) 481) (take (c.in-Ok.count - 0) after) c.args.out.now c.lay-dates.new.out
-          _ is c.in-err-at.ensures;
+          (scheduled closed (scheduled_deal terms) 481) (take (c.in-Ok.count - 0) after) c.args.out.now c.lay_dates.new.out
+          _ is c.in_err-at-in-Ok.ensures;
       left = tt;
     })
 
-pub returns-in-ok-at : goal.returns-in-ok-at
-returns-in-ok-at g c =
+pub returns-in_ok-at-in-Ok : goal.returns-in_ok-at-in-Ok
+returns-in_ok-at-in-Ok g c =
     let closed = g.S.ClosedDays.closed c.args.set.now in
     let terms = c.args.terms.now in
     let after = c.schedule.new.table in
     let count = asked (g.D.DayCount.counted c.args.register.now.basis) in
     let is =
-    schedule_here closed c.deal-of.result (scheduled_deal terms) c.args.table.now after c.in-Ok.count
-    c.deal-of.ensures c.requires c.in-Ok.ensures.rule
+    schedule_here closed c.deal_of.result (scheduled_deal terms) c.args.table.now after c.in-Ok.count
+    c.deal_of.ensures c.requires c.in-Ok.ensures.rule
     in
     record {
-      basis = c.lay-opening.ensures.basis;
+      basis = c.lay_opening.ensures.basis;
       laid =
           front_opens count g.D.DayCount.per (view_of c.args.register.now) terms.rate.value c.args.holdings.now
           c.args.number (scheduled closed (scheduled_deal terms) 481) (take (c.in-Ok.count - 0) after) c.args.out.now
-          c.lay-dates.new.out c.lay-opening.new.out c.in-ok-at.at c.lay-opening.result is
-          c.in-ok-at.ensures c.lay-opening.ensures.laid;
+          c.lay_dates.new.out c.lay_opening.new.out c.in_ok-at-in-Ok.at c.lay_opening.result is
+          c.in_ok-at-in-Ok.ensures c.lay_opening.ensures.laid;
       left =
-          whatever c.lay-opening.result
-          (c.lay-opening.ensures.left
+          whatever c.lay_opening.result
+          (c.lay_opening.ensures.left
           ∙ sym (ap (front_view count g.D.DayCount.per (view_of c.args.register.now) terms.rate.value c.args.holdings.now) is));
     }
 
@@ -65,15 +65,15 @@ returns-in-Err g c =
     let count = asked (g.D.DayCount.counted c.args.register.now.basis) in
     let v = view_of c.args.register.now in
     let is =
-    refused_here closed c.deal-of.result (scheduled_deal terms) c.args.table.now c.schedule.new.table
-    c.in-Err.refusal c.deal-of.ensures c.requires c.in-Err.ensures.rule
+    refused_here closed c.deal_of.result (scheduled_deal terms) c.args.table.now c.schedule.new.table
+    c.in-Err.refusal c.deal_of.ensures c.requires c.in-Err.ensures.rule
     in
     record {
       basis = refl;
       laid =
           front_refused count g.D.DayCount.per v terms.rate.value c.args.holdings.now c.args.number
-          (scheduled closed (scheduled_deal terms) 481) (told c.in-Err.refusal) (text_of c.refused-draft.result)
-          c.args.out.now c.lay.new.out c.lay.result is c.refused-draft.ensures c.lay.ensures.laid;
+          (scheduled closed (scheduled_deal terms) 481) (told c.in-Err.refusal) (text_of c.refused_draft.result)
+          c.args.out.now c.lay.new.out c.lay.result is c.refused_draft.ensures c.lay.ensures.laid;
       left =
           whatever c.lay.result
           (sym (ap (front_view count g.D.DayCount.per v terms.rate.value c.args.holdings.now) is));

@@ -10,7 +10,7 @@ returns c =
     let t0 = begun _ _ w c.new-line.ensures c.word.ensures in
     let x1 : List ℕ = field c.args.answer in
     let x2 : List ℕ = ended in
-    let t1 = then _ _ (w) x1 t0 c.put-field.ensures.text in
+    let t1 = then _ _ (w) x1 t0 c.put_field.ensures.text in
     let t2 = then _ _ (w ++ x1) x2 t1 c.push.ensures in
     whole _ ((w ++ x1) ++ x2) _ t2 (simp append_assoc)
-    (simp length-append (omega (arith, c.put-field.ensures.short)))
+    (simp length-append (omega (arith, c.put_field.ensures.short)))

@@ -14,9 +14,9 @@ returns c =
     let x2 : List ℕ = space ∷ [] in
     let x3 : List ℕ = spelled_date c.args.day in
     let x4 : List ℕ = ended in
-    let t1 = then _ _ (w) x1 t0 c.put-field.ensures.text in
+    let t1 = then _ _ (w) x1 t0 c.put_field.ensures.text in
     let t2 = then _ _ (w ++ x1) x2 t1 c.push.ensures in
     let t3 = then _ _ ((w ++ x1) ++ x2) x3 t2 (c.date.ensures.inside c.requires) in
     let t4 = then _ _ (((w ++ x1) ++ x2) ++ x3) x4 t3 c.push-2.ensures in
     whole _ ((((w ++ x1) ++ x2) ++ x3) ++ x4) _ t4 (simp append_assoc)
-    (simp length-append (omega (arith, c.put-field.ensures.short, spelled_long c.args.day)))
+    (simp length-append (omega (arith, c.put_field.ensures.short, spelled_long c.args.day)))

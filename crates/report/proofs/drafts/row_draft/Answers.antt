@@ -14,11 +14,11 @@ returns c =
     let x4 : List ℕ = field c.args.row.now.due in
     let x5 : List ℕ = field c.args.row.now.ticks in
     let x6 : List ℕ = ended in
-    let t1 = then _ _ (w) x1 t0 c.put-field.ensures.text in
-    let t2 = then _ _ (w ++ x1) x2 t1 c.put-field-2.ensures.text in
-    let t3 = then _ _ ((w ++ x1) ++ x2) x3 t2 c.put-field-3.ensures.text in
-    let t4 = then _ _ (((w ++ x1) ++ x2) ++ x3) x4 t3 c.put-field-4.ensures.text in
-    let t5 = then _ _ ((((w ++ x1) ++ x2) ++ x3) ++ x4) x5 t4 c.put-field-5.ensures.text in
+    let t1 = then _ _ (w) x1 t0 c.put_field.ensures.text in
+    let t2 = then _ _ (w ++ x1) x2 t1 c.put_field-2.ensures.text in
+    let t3 = then _ _ ((w ++ x1) ++ x2) x3 t2 c.put_field-3.ensures.text in
+    let t4 = then _ _ (((w ++ x1) ++ x2) ++ x3) x4 t3 c.put_field-4.ensures.text in
+    let t5 = then _ _ ((((w ++ x1) ++ x2) ++ x3) ++ x4) x5 t4 c.put_field-5.ensures.text in
     let t6 = then _ _ (((((w ++ x1) ++ x2) ++ x3) ++ x4) ++ x5) x6 t5 c.push.ensures in
     whole _ ((((((w ++ x1) ++ x2) ++ x3) ++ x4) ++ x5) ++ x6) _ t6 (simp append_assoc)
-    (simp length-append (omega (arith, c.put-field.ensures.short, c.put-field-2.ensures.short, c.put-field-3.ensures.short, c.put-field-4.ensures.short, c.put-field-5.ensures.short)))
+    (simp length-append (omega (arith, c.put_field.ensures.short, c.put_field-2.ensures.short, c.put_field-3.ensures.short, c.put_field-4.ensures.short, c.put_field-5.ensures.short)))

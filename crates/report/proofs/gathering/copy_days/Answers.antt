@@ -4,7 +4,7 @@ use Rattle.report.specs.Parts.{part, day_in}
 use Rattle.report.proofs.Finds.{Copied, copied_room, copied_more, copied_past, copied_all}
 use Rattle.report.proofs.OtherLines.{no_closed_day}
 use Rattle.report.proofs.gathering.copy_days.Goals as goal
-use Rattle.report.proofs.gathering.copy_days.Goals.{in-ClosedDay, in-default}
+use Rattle.report.proofs.gathering.copy_days.Goals.{in-ClosedDay, in_default}
 
 pub bounds-days-count : goal.bounds-days-count
 bounds-days-count c =
@@ -22,9 +22,9 @@ loop-line-preserved c =
           rw w.count-is
           (copied_more day_in lines c.loop-line.days c.loop-line.count i w.in-ClosedDay.day.value c.match-line.days
           c.loop-line.invariant (omega arith) room is w.days-is (omega (arith, ap length w.days-is, length-set c.loop-line.days c.loop-line.count w.in-ClosedDay.day.value)))
-      | in-default w ↦ rw (w.count-is, w.days-is)
+      | in_default w ↦ rw (w.count-is, w.days-is)
           (copied_past day_in lines c.loop-line.days c.loop-line.count i c.loop-line.invariant (omega arith)
-          (no_closed_day (get_or lines i Posting) w.in-default.not-ClosedDay))
+          (no_closed_day (get_or lines i Posting) w.in_default.not-ClosedDay))
     ]
 
 pub returns : goal.returns

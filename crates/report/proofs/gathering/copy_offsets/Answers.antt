@@ -5,7 +5,7 @@ use Rattle.report.specs.Parts.{part, offset_in}
 use Rattle.report.proofs.Finds.{Copied, copied_room, copied_more, copied_past, copied_all}
 use Rattle.report.proofs.OtherLines.{no_offset}
 use Rattle.report.proofs.gathering.copy_offsets.Goals as goal
-use Rattle.report.proofs.gathering.copy_offsets.Goals.{in-Offset, in-default}
+use Rattle.report.proofs.gathering.copy_offsets.Goals.{in-Offset, in_default}
 
 pub bounds-offsets-count : goal.bounds-offsets-count
 bounds-offsets-count c =
@@ -25,9 +25,9 @@ loop-line-preserved c =
           rw w.count-is
           (copied_more offset_in lines c.loop-line.offsets c.loop-line.count i w.in-Offset.offset.value c.match-line.offsets
           c.loop-line.invariant (omega arith) room is there (omega (arith, ap length there, length-set c.loop-line.offsets c.loop-line.count w.in-Offset.offset.value)))
-      | in-default w ↦ rw (w.count-is, w.offsets-is)
+      | in_default w ↦ rw (w.count-is, w.offsets-is)
           (copied_past offset_in lines c.loop-line.offsets c.loop-line.count i c.loop-line.invariant (omega arith)
-          (no_offset (get_or lines i Posting) w.in-default.not-Offset))
+          (no_offset (get_or lines i Posting) w.in_default.not-Offset))
     ]
 
 pub returns : goal.returns

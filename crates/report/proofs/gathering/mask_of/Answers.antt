@@ -13,7 +13,7 @@ returns-in-Pattern c =
 pub loop-line-preserved : goal.loop-line-preserved
 loop-line-preserved c =
     none_yet pattern_in c.args.lines.now c.loop-line.line-index (omega arith)
-    (no_pattern (get_or c.args.lines.now c.loop-line.line-index Posting) c.in-default.not-Pattern) c.loop-line.invariant
+    (no_pattern (get_or c.args.lines.now c.loop-line.line-index Posting) c.in_default.not-Pattern) c.loop-line.invariant
 
 pub returns : goal.returns
 returns c = none_found pattern_in c.args.lines.now c.loop-line.line-index 0 (omega arith) c.loop-line.invariant

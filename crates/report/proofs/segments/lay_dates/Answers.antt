@@ -5,16 +5,16 @@ use Rattle.report.specs.Printed.{sc_line, sc_lines}
 use Rattle.report.proofs.Onward.{onward_more, onward_stops, onward_done}
 use Rattle.report.proofs.segments.lay_dates.Goals as goal
 
-pub returns-in-err-end : goal.returns-in-err-end
-returns-in-err-end c =
+pub returns-in_err-end : goal.returns-in_err-end
+returns-in_err-end c =
     let i = c.loop-index.index in
     let xs = c.args.days.now in
     let inside : i < length xs = omega arith in
     let is = at_drop_more (sc_lines i) xs i 0 inside in
-    let p = err_from_is_err_and c.from-residual.result c.from-residual.ensures.1 in
+    let p = err_from_is_err_and c.from_residual.result c.from_residual.ensures.1 in
     rw (p.1, p.2)
     (onward_stops (sc_lines i (drop i xs)) (sc_line i (get_or xs i 0)) (sc_lines (i + 1) (drop (i + 1) xs)) c.loop-index.out c.loop-index.end
-    (sc_lines 0 xs) c.args.out.now c.args.at _ _ _ is c.date-draft.ensures c.loop-index.invariant c.in-err-end.ensures.laid)
+    (sc_lines 0 xs) c.args.out.now c.args.at _ _ _ is c.date_draft.ensures c.loop-index.invariant c.in_err-end.ensures.laid)
 
 pub loop-index-preserved : goal.loop-index-preserved
 loop-index-preserved c =
@@ -23,7 +23,7 @@ loop-index-preserved c =
     let inside : i < length xs = omega arith in
     let is = at_drop_more (sc_lines i) xs i 0 inside in
     onward_more (sc_lines i (drop i xs)) (sc_line i (get_or xs i 0)) (sc_lines (i + 1) (drop (i + 1) xs)) c.loop-index.out c.loop-index.end
-    (sc_lines 0 xs) c.args.out.now c.args.at _ _ _ is c.date-draft.ensures c.loop-index.invariant c.in-ok-end.ensures.laid
+    (sc_lines 0 xs) c.args.out.now c.args.at _ _ _ is c.date_draft.ensures c.loop-index.invariant c.in_ok-end.ensures.laid
 
 pub returns : goal.returns
 returns c =

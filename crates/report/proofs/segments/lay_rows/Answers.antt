@@ -6,16 +6,16 @@ use Rattle.report.specs.Printed.{st_line, st_lines}
 use Rattle.report.proofs.Onward.{onward_more, onward_stops, onward_done}
 use Rattle.report.proofs.segments.lay_rows.Goals as goal
 
-pub returns-in-err-end : goal.returns-in-err-end
-returns-in-err-end c =
+pub returns-in_err-end : goal.returns-in_err-end
+returns-in_err-end c =
     let i = c.loop-holder.holder in
     let xs = c.args.rows.now in
     let inside : i < length xs = omega arith in
     let is = at_drop_more (st_lines i) xs i zero_row inside in
-    let p = err_from_is_err_and c.from-residual.result c.from-residual.ensures.1 in
+    let p = err_from_is_err_and c.from_residual.result c.from_residual.ensures.1 in
     rw (p.1, p.2)
     (onward_stops (st_lines i (drop i xs)) (st_line i (get_or xs i zero_row)) (st_lines (i + 1) (drop (i + 1) xs)) c.loop-holder.out c.loop-holder.end
-    (st_lines 0 xs) c.args.out.now c.args.at _ _ _ is c.row-draft.ensures c.loop-holder.invariant c.in-err-end.ensures.laid)
+    (st_lines 0 xs) c.args.out.now c.args.at _ _ _ is c.row_draft.ensures c.loop-holder.invariant c.in_err-end.ensures.laid)
 
 pub loop-holder-preserved : goal.loop-holder-preserved
 loop-holder-preserved c =
@@ -24,7 +24,7 @@ loop-holder-preserved c =
     let inside : i < length xs = omega arith in
     let is = at_drop_more (st_lines i) xs i zero_row inside in
     onward_more (st_lines i (drop i xs)) (st_line i (get_or xs i zero_row)) (st_lines (i + 1) (drop (i + 1) xs)) c.loop-holder.out c.loop-holder.end
-    (st_lines 0 xs) c.args.out.now c.args.at _ _ _ is c.row-draft.ensures c.loop-holder.invariant c.in-ok-end.ensures.laid
+    (st_lines 0 xs) c.args.out.now c.args.at _ _ _ is c.row_draft.ensures c.loop-holder.invariant c.in_ok-end.ensures.laid
 
 pub returns : goal.returns
 returns c =

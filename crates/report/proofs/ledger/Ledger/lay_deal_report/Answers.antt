@@ -6,42 +6,42 @@ use Rattle.text.specs.declared.line.Line.{Line}
 use Rattle.report.proofs.Reporting.{deal_there, deal_stands, deal_reported, laid_within}
 use Rattle.report.proofs.ledger.Ledger.lay_deal_report.Goals as goal
 
-pub lay-report-requires : goal.lay-report-requires
-lay-report-requires c =
+pub lay_report-requires : goal.lay_report-requires
+lay_report-requires c =
     let self = c.args.self.now in
     let lines = self.lines.now in
-    let at = c.place-of-at.result in
+    let at = c.place_of-at.result in
     let k = c.args.deal in
     let less : k < length (starts_of lines) = omega (arith, ap length self.places) in
     let few = self.few_holders k less in
     let behind = take_rest lines (at + 1) in
-    let place = c.place-of-at.ensures.place in
+    let place = c.place_of-at.ensures.place in
     record {
       few =
           rw behind (subst (λ (i : ℕ). length (leading holding_in (drop (i + 1) lines)) ≤ 16) (sym place) few);
-      within = rw behind (omega (arith, length-drop (at + 1) lines, c.place-of-at.ensures.few, c.place-of-at.ensures.inside));
+      within = rw behind (omega (arith, length-drop (at + 1) lines, c.place_of-at.ensures.few, c.place_of-at.ensures.inside));
     }
 
 pub unreachable-requires : goal.unreachable-requires
 unreachable-requires c =
     let self = c.args.self.now in
     let less : c.args.deal < length (starts_of self.lines.now) = omega (arith, ap length self.places) in
-    deal_stands self.lines.now c.args.deal c.place-of-at.result less c.place-of-at.ensures.place c.in-default.not-Deal
+    deal_stands self.lines.now c.args.deal c.place_of-at.result less c.place_of-at.ensures.place c.in_default.not-Deal
 
 pub returns : goal.returns
 returns c =
     let self = c.args.self.now in
     let lines = self.lines.now in
-    let at = c.place-of-at.result in
+    let at = c.place_of-at.result in
     let k = c.args.deal in
     let less : k < length (starts_of lines) = omega (arith, ap length self.places) in
     let set = c.set.result in
     record {
       reported =
           deal_reported lines k at c.in-Deal.terms (take set.first.count set.first.offsets) set.second.first.days.now
-          set.second.second.mask _ c.args.out.now c.lay-report.result c.lay-report.new.out
+          set.second.second.mask _ c.args.out.now c.lay_report.result c.lay_report.new.out
           (ap (λ e. take e.count e.offsets) c.set.ensures.easter ∙ self.offsets) (c.set.ensures.days ∙ self.days)
           (ap (λ p. p.mask) c.set.ensures.pattern ∙ self.pattern) (take_rest lines (at + 1))
-          (deal_there lines k at c.in-Deal.terms less c.place-of-at.ensures.place c.in-Deal.is) c.lay-report.ensures;
-      within = laid_within _ c.args.out.now c.lay-report.result c.lay-report.new.out c.lay-report.ensures;
+          (deal_there lines k at c.in-Deal.terms less c.place_of-at.ensures.place c.in-Deal.is) c.lay_report.ensures;
+      within = laid_within _ c.args.out.now c.lay_report.result c.lay_report.new.out c.lay_report.ensures;
     }

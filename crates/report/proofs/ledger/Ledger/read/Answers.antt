@@ -8,10 +8,10 @@ use Rattle.report.proofs.ledger.Ledger.read.Goals as goal
 
 pub of-requires : goal.of-requires
 of-requires c =
-    let n = c.read-lines-count.result.0 in
+    let n = c.read_lines-count.result.0 in
     let all : n ≡ n - 0 = omega arith in
-    let table = c.read-lines-count.new.lines in
-    let good = subst (λ (k : ℕ). GoodLines start 1 (take k table)) all c.read-lines-count.ensures.good in
+    let table = c.read_lines-count.new.lines in
+    let good = subst (λ (k : ℕ). GoodLines start 1 (take k table)) all c.read_lines-count.ensures.good in
     let calendar = good_calendar (take (n - 0) table) good in
     record {
       small = calendar.mask_small;
@@ -21,23 +21,19 @@ of-requires c =
       near = calendar.offsets_near;
     }
 
-pub invariant-of-result : goal.invariant-of-result
-invariant-of-result c =
-    let n = c.read-lines-count.result.0 in
+pub invariant_of-result : goal.invariant_of-result
+invariant_of-result c =
+    let n = c.read_lines-count.result.0 in
     let all : n ≡ n - 0 = omega arith in
-    let table = c.read-lines-count.new.lines in
-    let found = c.index-deals-found.result in
+    let table = c.read_lines-count.new.lines in
+    let found = c.index_deals-found.result in
     let same : found - 0 ≡ found = omega arith in
-    let good = subst (λ (k : ℕ). GoodLines start 1 (take k table)) all c.read-lines-count.ensures.good in (
-      ap (λ k. take k c.index-deals-found.new.deals) same ∙ c.index-deals-found.ensures.places,
-      (
-        c.of.ensures.mask,
-        (
-          c.of.ensures.days,
-          (
-            c.of.ensures.offsets,
-            (omega (arith, length-take-le (n - 0) table (omega arith)), (few_holders (take (n - 0) table) good, tt)),
-          ),
-        ),
-      ),
-    )
+    let good = subst (λ (k : ℕ). GoodLines start 1 (take k table)) all c.read_lines-count.ensures.good in
+    record {
+      places = ap (λ k. take k c.index_deals-found.new.deals) same ∙ c.index_deals-found.ensures.places;
+      pattern = c.of.ensures.mask;
+      days = c.of.ensures.days;
+      offsets = c.of.ensures.offsets;
+      few_lines = omega (arith, length-take-le (n - 0) table (omega arith));
+      few_holders = few_holders (take (n - 0) table) good;
+    }

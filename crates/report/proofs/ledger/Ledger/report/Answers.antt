@@ -15,7 +15,7 @@ returns-then-deal-self c =
     let past : length (starts_of lines) ≤ k = omega (arith, ap length self.places) in
     record {
       rule =
-          of_the_lines self.refused lines k buffer _ buffer c.in-default.is
+          of_the_lines self.refused lines k buffer _ buffer c.in_default.is
           (no_such_deal lines k buffer _ buffer past (ap Err c.stopped.ensures) refl);
       law = λ ls deal is there. report_law (closed_by ls) deal;
       within = omega (arith, ap (λ s. s.written) c.stopped.ensures);
@@ -28,8 +28,8 @@ returns-in-Ok c =
     let k = c.args.deal in
     record {
       rule =
-          of_the_lines self.refused lines k c.args.out.now _ c.lay-deal-report.new.out c.in-default.is
-          (told_to_caller lines (slice_get (deals_of lines) k) c.args.out.now (Ok c.in-Ok.end) _ c.lay-deal-report.new.out
+          of_the_lines self.refused lines k c.args.out.now _ c.lay_deal_report.new.out c.in_default.is
+          (told_to_caller lines (slice_get (deals_of lines) k) c.args.out.now (Ok c.in-Ok.end) _ c.lay_deal_report.new.out
           c.in-Ok.ensures.reported refl);
       law = λ ls deal is there. report_law (closed_by ls) deal;
       within = c.in-Ok.ensures.within;
@@ -42,8 +42,8 @@ returns-in-Err c =
     let k = c.args.deal in
     record {
       rule =
-          of_the_lines self.refused lines k c.args.out.now _ c.lay-deal-report.new.out c.in-default.is
-          (told_to_caller lines (slice_get (deals_of lines) k) c.args.out.now (Err c.in-Err.full) _ c.lay-deal-report.new.out
+          of_the_lines self.refused lines k c.args.out.now _ c.lay_deal_report.new.out c.in_default.is
+          (told_to_caller lines (slice_get (deals_of lines) k) c.args.out.now (Err c.in-Err.full) _ c.lay_deal_report.new.out
           c.in-Err.ensures.reported (ap Err c.stopped-in-Err.ensures));
       law = λ ls deal is there. report_law (closed_by ls) deal;
       within = omega (arith, ap (λ s. s.written) c.stopped-in-Err.ensures, c.in-Err.ensures.within);
