@@ -1,8 +1,8 @@
 // Actual day counts: the days that pass.
 ghost use Rattle.std.specs.Prelude.{◌≡◌};
+ghost use Rattle.counts.specs.Actual.{actual_360_lawful, actual_365_lawful};
 ghost use Rattle.counts.specs.Bases.{actual};
 ghost use Rattle.counts.specs.Counting.{asked};
-ghost use Rattle.std.proofs.Common.{rules};
 
 use crate::count::DayCount;
 use days::LAST_DAY;
@@ -28,7 +28,7 @@ impl DayCount for Actual360 {
 
     ghost per = { 360 };
 
-    ghost lawful = { Prim.search rules };
+    ghost lawful = { λ basis. actual_360_lawful };
 
     fn per_year(&self) -> u32 {
         Self::DENOMINATOR
@@ -46,7 +46,7 @@ impl DayCount for Actual365 {
 
     ghost per = { 365 };
 
-    ghost lawful = { Prim.search rules };
+    ghost lawful = { λ basis. actual_365_lawful };
 
     fn per_year(&self) -> u32 {
         Self::DENOMINATOR

@@ -4,6 +4,7 @@ use Rattle.std.proofs.Common.{◌≡◌, ℕ, ◌*◌, ◌≤◌, Bool, List, Re
 use Rattle.days.specs.Refusals.{Told}
 use Rattle.counts.specs.Bases.{actual, bond, european}
 use Rattle.counts.specs.Counting.{Lawful}
+use Rattle.counts.specs.Actual.{actual_360_lawful, actual_365_lawful}
 use Rattle.counts.specs.Places.{bond_lawful, european_lawful}
 use Rattle.schedules.specs.Schedule.{scheduled}
 use Rattle.text.specs.declared.basis.Basis.{Basis}
@@ -13,19 +14,9 @@ use Rattle.report.specs.Laws.{InterestLaw, ReportLaw}
 use Rattle.report.specs.Reports.{count_by, per_by}
 use Rattle.report.proofs.Interest.{interest_shown}
 
-actual_lawful : (per : ℕ) → 267 ≤ per → per ≤ 366 → Lawful actual per
-actual_lawful per long few =
-    record {
-      some = omega arith;
-      few = few;
-      none = λ a inside. omega arith;
-      rises = λ a b c low high inside. omega arith;
-      short = λ a b low inside near. omega arith;
-    }
-
 by_basis : (basis : Basis) (deal : DealLines) (s : Result (List ℕ) Told) → InterestLaw (count_by basis) (per_by basis) deal s
-by_basis Actual360 deal s = interest_shown actual 360 (actual_lawful 360 (omega arith) (omega arith)) deal s
-by_basis Actual365 deal s = interest_shown actual 365 (actual_lawful 365 (omega arith) (omega arith)) deal s
+by_basis Actual360 deal s = interest_shown actual 360 actual_360_lawful deal s
+by_basis Actual365 deal s = interest_shown actual 365 actual_365_lawful deal s
 by_basis BondBasis deal s = interest_shown bond 360 bond_lawful deal s
 by_basis European deal s = interest_shown european 360 european_lawful deal s
 
