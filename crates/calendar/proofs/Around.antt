@@ -1,15 +1,13 @@
 -- An Easter rule closes Easter plus each offset, in each year.
 -- Assumes nothing.
-use Rattle.std.proofs.Common.{◌≡◌, ℕ, suc, ◌+◌, ◌-◌, ◌<◌, ◌≤◌, Bool, true, false, cond, ◌&&◌, ◌||◌, leb, List, [], ◌∷◌, length, get_or, ℤ, pos, negsuc, ◌+ℤ◌, ◌-ℤ◌, Some, None, sym, refl, ap, ◌∙◌, arith, w32, to_z, of_z}
-use Rattle.std.specs.List.{AllByRecursion as All}
+use Rattle.std.proofs.Common.{◌≡◌, ℕ, suc, ◌+◌, ◌-◌, ◌<◌, ◌≤◌, Bool, true, ◌&&◌, leb, List, length, get_or, ℤ, pos, negsuc, ◌+ℤ◌, ◌-ℤ◌, Some, sym, refl, ap, ◌∙◌, arith, w32, to_z, of_z}
 use Rattle.std.proofs.ByRecursion.{All-get_or, Decides-by_and}
 use Rattle.std.proofs.lemmas.List.{get_or_default}
 use Rattle.std.proofs.lemmas.Int.{ints}
-use Rattle.std.proofs.lemmas.Bool.{leb-true, ltb-true, and_parts, or_right, le-ltb}
+use Rattle.std.proofs.lemmas.Bool.{leb-true, ltb-true, and_parts, or_right}
 use Rattle.days.specs.Calendar.{last_day, year_of, month_of, day_of, date_of, year_span, first_year, last_year}
 use Rattle.days.specs.Easter.{easter_of, easter_number}
 use Rattle.days.specs.Spans.{start_of}
-use Rattle.days.specs.Within.{Within}
 use Rattle.days.proofs.Checks.{some_tells}
 use Rattle.days.proofs.Round.{lossless, year_is}
 use Rattle.days.proofs.Spans.{start_mono}

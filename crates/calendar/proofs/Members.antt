@@ -1,11 +1,11 @@
 -- The tests by which a list is searched say what `contains` answers.
 -- Assumes nothing.
-use Rattle.std.proofs.Common.{◌≡◌, ℕ, ◌≤◌, Bool, true, false, ◌||◌, eqb, List, [], ◌∷◌, ℤ, pos, negsuc, Decides, refl, ap, arith}
+use Rattle.std.proofs.Common.{◌≡◌, ℕ, ◌≤◌, Bool, ◌||◌, eqb, List, ℤ, pos, negsuc, Decides, refl, ap, arith}
 use Rattle.days.specs.Calendar.{last_day}
 use Rattle.std.proofs.lemmas.Bool.{le-ltb}
 use Rattle.calendar.specs.Closed.{above_range}
 use Rattle.std.specs.List.{ContainsAt as Has}
-use Rattle.std.proofs.lemmas.Bool.Decides.{same_from_decides, Decides-by_or, Decides-eqb, Decides-like}
+use Rattle.std.proofs.lemmas.Bool.Decides.{Decides-by_or, Decides-eqb, Decides-like}
 use Rattle.calendar.specs.Kinds.{listed, same_offset, offset_listed}
 
 pub listed_decides : (days : List ℕ) (n : ℕ) → Decides (listed days n) (Has days n)

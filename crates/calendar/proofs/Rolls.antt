@@ -1,14 +1,13 @@
 -- The rolled day is the least or the greatest open day, and there is one such day.
 -- Assumes nothing.
-use Rattle.std.proofs.Common.{◌≡◌, ℕ, zero, suc, ◌+◌, ◌-◌, ◌<◌, ◌≤◌, Bool, true, false, cond, leb, ◌≢◌, ◌⊎◌, Some, None, Option, sym, refl, ap, ◌∙◌, subst, inl, inr, ⊎_elim, le_antisymm, arith, MatchOption}
+use Rattle.std.proofs.Common.{◌≡◌, ℕ, zero, suc, ◌+◌, ◌-◌, ◌<◌, ◌≤◌, Bool, true, false, leb, ◌≢◌, ◌⊎◌, Some, None, Option, sym, refl, ap, ◌∙◌, inl, inr, ⊎_elim, le_antisymm, arith, MatchOption}
 use Rattle.std.proofs.lemmas.Bool.{both_ways, cases_Bool, cases_eq, cases_lt, cases_order, cond_both, le-leb, lt-leb, leb-true}
 use Rattle.days.specs.Calendar.{last_day, month_end}
-use Rattle.days.proofs.Checks.{some_tells}
 use Rattle.days.proofs.Ends.{end_mono}
 use Rattle.calendar.specs.declared.rolling.Convention.{Convention}
 use Rattle.calendar.specs.declared.rolling.Convention.TheVariants.{Following, ModifiedFollowing, Preceding, Unadjusted}
 use Rattle.calendar.specs.Rolling.{reach, first_open, last_open, or_else, roll_forward, roll_back, roll_within, rolled}
-use Rattle.calendar.specs.Relations.{NoneOpen, Least, Greatest, LeastOrNone, GreatestOrNone, RollsWithin, Rolls, KeepsOrder, EndsOpen}
+use Rattle.calendar.specs.Relations.{NoneOpen, Least, Greatest, LeastOrNone, GreatestOrNone, RollsWithin, KeepsOrder, EndsOpen}
 
 cases_map :
     {A : Type 0} (o : Option A) {P P' : Type 0} {Q Q' : A → Type 0} →

@@ -1,6 +1,6 @@
 -- Worked figures: dates, Easters and rolled days that are known from elsewhere, and that the rules above must yield.
 -- Assumes nothing.
-use Rattle.std.specs.Prelude.{ℕ, Bool, true, false, ◌&&◌, ◌||◌, List, [], ◌∷◌, ℤ, pos, negsuc, Some, None, Option, ◌==◌}
+use Rattle.std.specs.Prelude.{ℕ, Bool, true, false, ◌&&◌, ◌||◌, List, [], ◌∷◌, pos, negsuc, Some, None, Option, ◌==◌}
 use Rattle.days.specs.Calendar.{number_of, weekday_of}
 use Rattle.days.specs.Easter.{easter_month, easter_day}
 use Rattle.calendar.specs.declared.rolling.Convention.{Convention}

@@ -1,6 +1,6 @@
 -- Rolling a day off closed days, by the conventions of the trade.
 -- Assumes nothing.
-use Rattle.std.specs.Prelude.{◌≡◌, ℕ, zero, suc, ◌+◌, ◌-◌, ◌<◌, ◌≤◌, min, Bool, true, false, cond, Some, None, Option, nat_le}
+use Rattle.std.specs.Prelude.{ℕ, zero, suc, ◌+◌, ◌-◌, Bool, cond, Some, None, Option, nat_le}
 use Rattle.days.specs.Calendar.{last_day, month_end}
 use Rattle.calendar.specs.declared.rolling.Convention.{Convention}
 use Rattle.calendar.specs.declared.rolling.Convention.TheVariants.{Following, ModifiedFollowing, Preceding, Unadjusted}

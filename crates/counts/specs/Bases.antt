@@ -1,6 +1,6 @@
 -- The four day counts.
 -- Assumes nothing.
-use Rattle.std.specs.Prelude.{ℕ, ◌+◌, ◌-◌, ◌*◌, min, Bool, true, false, cond, ◌&&◌, ◌==◌, nat_lt}
+use Rattle.std.specs.Prelude.{ℕ, ◌+◌, ◌-◌, ◌*◌, cond, ◌==◌, nat_lt}
 use Rattle.days.specs.Calendar.{year_of, month_of, day_of}
 
 -- the days that pass

@@ -1,6 +1,6 @@
 -- What a day count is: a number of days from one day to another, and the days of its year.
 -- Assumes nothing.
-use Rattle.std.specs.Prelude.{◌≡◌, ℕ, ◌+◌, ◌-◌, ◌*◌, ◌≤◌, cond, ◌&&◌, nat_le}
+use Rattle.std.specs.Prelude.{◌≡◌, ℕ, ◌-◌, ◌*◌, ◌≤◌, cond, ◌&&◌, nat_le}
 use Rattle.days.specs.Calendar.{last_day}
 
 -- what a day count answers: its count for days in order within the range, and 0 for any other pair

@@ -1,14 +1,14 @@
 -- The 30/360 counts keep the laws of a day count.
 -- Assumes nothing.
-use Rattle.std.specs.Prelude.{◌≡◌, ℕ, zero, suc, ◌+◌, ◌-◌, ◌*◌, ◌<◌, ◌≤◌, Bool, true, false, cond, ◌&&◌, ◌⊎◌, pos, ◌==◌, ◌≢◌, nat_le, nat_lt, refl}
-use Rattle.std.proofs.Common.{sym, ap, ◌∙◌, inl, inr, ⊎_elim, arith}
+use Rattle.std.specs.Prelude.{◌≡◌, ℕ, zero, suc, ◌+◌, ◌-◌, ◌*◌, ◌<◌, ◌≤◌, Bool, true, false, cond, ◌&&◌, ◌⊎◌, ◌==◌, ◌≢◌, nat_le, nat_lt, refl}
+use Rattle.std.proofs.Common.{inl, inr, ⊎_elim, arith}
 use Rattle.std.proofs.lemmas.Int.{ints}
-use Rattle.std.proofs.lemmas.Bool.{cases_order, cases_Bool, cond_both, eqb-true, eqb-false, leb-true, ltb-true, ltb-false, and_parts}
+use Rattle.std.proofs.lemmas.Bool.{cases_order, cases_Bool, cond_both, eqb-true, eqb-false, leb-true, ltb-false, and_parts}
 use Rattle.days.specs.Spans.{start_of}
 use Rattle.days.specs.Calendar.{leap, year_span, month_span, year_of, month_of, day_of, last_day}
 use Rattle.days.proofs.Checks.{upto, below}
 use Rattle.days.proofs.Spans.{start_suc, start_mono}
-use Rattle.days.proofs.Months.{month_size, year_has}
+use Rattle.days.proofs.Months.{month_size}
 use Rattle.days.proofs.Round.{Placed, placed, year_index, month_index}
 use Rattle.counts.specs.Counting.{Lawful}
 use Rattle.counts.specs.Bases.{place, cut, first_place, bond_second, bond, european}

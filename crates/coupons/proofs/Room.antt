@@ -1,6 +1,6 @@
 -- A schedule that was made lies within its table.
 -- Assumes nothing.
-use Rattle.std.proofs.Common.{ℕ, ◌+◌, ◌≤◌, List, ◌++◌, length, drop, IfOk, Ok, Err, Result, arith}
+use Rattle.std.proofs.Common.{ℕ, ◌≤◌, List, length, drop, IfOk, Ok, Err, Result, arith}
 use Rattle.std.proofs.lemmas.List.{length-append}
 use Rattle.days.specs.Refusals.{Told}
 use Rattle.days.specs.declared.refusal.Refusal.{Refusal}

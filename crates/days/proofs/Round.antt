@@ -1,9 +1,9 @@
 -- Numbers and dates lead to each other, and each leads back.
 -- Assumes nothing.
-use Rattle.std.proofs.Common.{◌≡◌, ℕ, suc, ◌+◌, ◌-◌, ◌<◌, ◌≤◌, Bool, Some, None, sym, refl, ap, ◌∙◌, arith}
+use Rattle.std.proofs.Common.{◌≡◌, ℕ, suc, ◌+◌, ◌-◌, ◌<◌, ◌≤◌, Bool, Some, None, refl, ap, ◌∙◌, arith}
 use Rattle.days.specs.Spans.{start_of, span_of}
 use Rattle.days.specs.Within.{Within}
-use Rattle.days.specs.Calendar.{leap, year_span, month_span, month_length, IsMonth, IsDate, number_of, year_of, day_in_year, month_of, day_of, last_day, date_of}
+use Rattle.days.specs.Calendar.{leap, year_span, month_span, month_length, IsDate, number_of, year_of, day_in_year, month_of, day_of, last_day, date_of}
 use Rattle.std.proofs.lemmas.Bool.{le-leb, lt-leb}
 use Rattle.days.specs.Laws.{Lossless, DaysFollow}
 use Rattle.days.proofs.Spans.{start_suc, start_mono, span_holds, span_is}

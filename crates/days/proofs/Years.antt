@@ -1,13 +1,12 @@
 -- The days before a year, in closed form.
 -- Assumes nothing.
-use Rattle.std.proofs.Common.{◌≡◌, ℕ, zero, suc, ◌+◌, ◌-◌, ◌*◌, ◌/◌, ◌<◌, ◌≤◌, Bool, true, cond, eqb, ltb, refl, ◌∙◌, arith, lit≤}
+use Rattle.std.proofs.Common.{◌≡◌, ℕ, zero, suc, ◌+◌, ◌-◌, ◌*◌, ◌/◌, ◌<◌, ◌≤◌, Bool, cond, eqb, ltb, refl, arith, lit≤}
 use Rattle.std.proofs.lemmas.Bool.Decides.{nat_tests}
 use Rattle.days.specs.Within.{Within}
 use Rattle.std.proofs.lemmas.Bool.{eqb-true}
 use Rattle.days.specs.Spans.{start_of}
 use Rattle.days.specs.Calendar.{year_span, leap}
 use Rattle.days.proofs.Checks.{below}
-use Rattle.days.proofs.Spans.{start_suc}
 
 -- every fourth year is a leap year, but not 1900 and not 2100
 abbrev pub before_year : ℕ → ℕ

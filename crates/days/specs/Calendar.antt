@@ -1,6 +1,6 @@
 -- The Gregorian calendar from 1900-01-01, day 0, to 2199-12-31, day 109,572.
 -- Assumes nothing.
-use Rattle.std.specs.Prelude.{ℕ, ◌+◌, ◌-◌, ◌%◌, ◌≤◌, Bool, true, false, cond, not, ◌&&◌, ◌||◌, List, [], ◌∷◌, Some, None, Option, ◌==◌, nat_le, slice_index}
+use Rattle.std.specs.Prelude.{ℕ, ◌+◌, ◌-◌, ◌%◌, ◌≤◌, Bool, cond, not, ◌&&◌, ◌||◌, [], ◌∷◌, Some, None, Option, ◌==◌, nat_le, slice_index}
 use Rattle.days.specs.Spans.{start_of, span_of}
 
 abbrev pub first_year : ℕ

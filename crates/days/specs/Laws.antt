@@ -1,6 +1,6 @@
 -- What holds of the calendar as a whole.
 -- Assumes nothing.
-use Rattle.std.specs.Prelude.{◌≡◌, ℕ, suc, ◌+◌, ◌<◌, ◌≤◌}
+use Rattle.std.specs.Prelude.{◌≡◌, ℕ, ◌+◌, ◌<◌, ◌≤◌}
 use Rattle.days.specs.Calendar.{last_day, month_length, IsDate, number_of, year_of, month_of, day_of, weekday_of}
 use Rattle.days.specs.Easter.{easter_of, easter_month, easter_day}
 

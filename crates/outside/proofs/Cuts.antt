@@ -1,6 +1,6 @@
 -- A line is cut into its words in one way only.
 -- Assumes nothing.
-use Rattle.std.proofs.Common.{◌≡◌, ℕ, zero, suc, ◌<◌, Bool, true, false, cond, eqb, List, ◌∷◌, ◌++◌, length, get_or, drop, Some, None, sym, refl, subst, one-add, arith, lit<, length-drop, get_or-drop, Bor, eqb-true}
+use Rattle.std.proofs.Common.{◌≡◌, ℕ, zero, suc, ◌<◌, Bool, true, false, cond, eqb, List, length, get_or, drop, Some, None, sym, refl, subst, one-add, arith, lit<, length-drop, get_or-drop, Bor, eqb-true}
 use Rattle.std.specs.Str.Pattern.{FindsChar}
 use Rattle.std.specs.Int.{IsInRange}
 use Rattle.std.specs.Str.Parse.{AllDigits}

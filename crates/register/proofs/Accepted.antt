@@ -1,9 +1,9 @@
 -- What an accepted call knows: that no cause of refusal holds.
 -- Assumes nothing.
-use Rattle.std.proofs.Common.{◌≡◌, ℕ, ◌+◌, ◌<◌, ◌≤◌, Bool, true, false, not, ◌&&◌, ◌||◌, eqb, ltb, leb, List, length, get_or, Some, None, sum, Option, refl, arith}
-use Rattle.std.proofs.lemmas.Bool.{or_parts, and_parts, leb-true, leb-false, ltb-false, eqb-false, not-false}
+use Rattle.std.proofs.Common.{◌≡◌, ℕ, ◌≤◌, Bool, true, false, not, ◌||◌, eqb, ltb, List, length, get_or, None, sum, Option, refl, arith}
+use Rattle.std.proofs.lemmas.Bool.{or_parts, and_parts, leb-true, ltb-false, eqb-false, not-false}
 use Rattle.days.specs.Refusals.{Told}
-use Rattle.register.specs.Calls.{Call, opening, advance, transfer, redemption, posting, payment, State, empty, closed, end_of, unknown, uncovered, steady, good_dates, refuse_if, parties, judge_holdings, judge}
+use Rattle.register.specs.Calls.{opening, advance, transfer, redemption, posting, payment, State, empty, closed, end_of, unknown, uncovered, steady, good_dates, refuse_if, judge}
 
 let_through : (cause : Bool) (n : ℕ) (rest : Option Told) → refuse_if cause n rest ≡ None → (cause ≡ false) × (rest ≡ None)
 let_through true n rest e = absurd (let z : ◌≡◌ {A = ℕ} 0 1 = cc in omega arith)

@@ -1,13 +1,13 @@
 -- Each call carries the law on, and a run of calls keeps it.
 -- Assumes nothing.
-use Rattle.std.proofs.Common.{◌≡◌, ℕ, ◌-◌, List, [], ◌∷◌, ◌++◌, Some, None, Ok, Err, Result, sym, refl, ap, ◌∙◌}
+use Rattle.std.proofs.Common.{◌≡◌, ℕ, ◌-◌, Some, None, Ok, Err, Result, sym, ap, ◌∙◌}
 use Rattle.days.specs.Refusals.{told}
 use Rattle.days.specs.declared.refusal.Refusal.{Refusal}
 use Rattle.counts.specs.Counting.{asked, Lawful}
 use Rattle.register.specs.Calls.{Call, judge}
 use Rattle.register.specs.Journal.{journal, state_of}
-use Rattle.register.specs.Mirrors.{Follows, Mirrors, After, AsJudged, CarriesOn, CountsOn}
-use Rattle.register.specs.Rules.{View, seen_state, first, ruled}
+use Rattle.register.specs.Mirrors.{Follows, CarriesOn, CountsOn}
+use Rattle.register.specs.Rules.{View, first}
 use Rattle.register.proofs.Law.{call_law}
 use Rattle.register.proofs.Sound.{journal_sound, journal_accepts, journal_refuses}
 

@@ -1,11 +1,10 @@
 -- Steady dates: place by place, and which period holds a day.
 -- Assumes nothing.
-use Rattle.std.proofs.Common.{◌≡◌, ℕ, zero, suc, ◌+◌, ◌-◌, ◌<◌, ◌≤◌, Bool, true, false, cond, ◌&&◌, ltb, leb, List, [], ◌∷◌, length, get_or, drop, sym, refl, ap, ◌∙◌, arith}
+use Rattle.std.proofs.Common.{◌≡◌, ℕ, zero, suc, ◌+◌, ◌<◌, ◌≤◌, true, ◌&&◌, ltb, leb, List, length, get_or, drop, sym, refl, ◌∙◌, arith}
 use Rattle.std.proofs.lemmas.List.{drop_more, drop_all, at_drop_more}
-use Rattle.std.proofs.lemmas.Bool.{le-leb, and_parts, leb-true, ltb-true, lt-leb}
+use Rattle.std.proofs.lemmas.Bool.{le-leb, and_parts, leb-true, ltb-true}
 use Rattle.days.specs.Calendar.{last_day}
-use Rattle.register.specs.Calls.{follows, fits_before, steady, follows_at}
-use Rattle.register.specs.Interest.{first_of}
+use Rattle.register.specs.Calls.{steady, follows_at}
 
 pub follows_last : (dates : List ℕ) (i : ℕ) → i + 1 ≡ length dates → get_or dates i 0 ≤ last_day → true ≡ follows_at dates i
 follows_last dates i e inside =

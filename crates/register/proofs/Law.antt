@@ -1,25 +1,24 @@
 -- The law of interest: an accepted call keeps a register and its journal together.
 -- Assumes nothing.
-use Rattle.std.proofs.Common.{◌≡◌, ℕ, zero, suc, ◌+◌, ◌-◌, ◌*◌, ◌<◌, ◌≤◌, Bool, true, false, cond, eqb, leb, ◌≢◌, List, [], ◌∷◌, ◌++◌, map, length, get_or, take, set, Some, None, sum_by, sum, sym, refl, ap, ◌∙◌, ⊎_elim, zero-mul, arith, length-set}
+use Rattle.std.proofs.Common.{◌≡◌, ℕ, ◌+◌, ◌-◌, ◌*◌, ◌<◌, ◌≤◌, Bool, true, false, cond, eqb, List, ◌++◌, map, length, get_or, take, set, None, sum_by, sym, refl, ap, ◌∙◌, zero-mul, arith, length-set}
 use lib.ListN.{length-map}
 use Rattle.std.specs.List.{range_with_len}
-use Rattle.std.proofs.lemmas.List.{length-take, set-get_or, take-map, get_or-set_same, get_or-set_other}
+use Rattle.std.proofs.lemmas.List.{length-take, set-get_or}
 use Rattle.std.proofs.lemmas.List.Sums.{sum_by-append}
-use Rattle.std.proofs.lemmas.Bool.{leb-false, cases_eq, eqb-true}
-use Rattle.days.specs.Calendar.{last_day}
+use Rattle.std.proofs.lemmas.Bool.{leb-false, eqb-true}
 use Rattle.counts.specs.Counting.{asked, Lawful}
 use Rattle.register.specs.declared.row.Row.{Row}
-use Rattle.register.specs.Calls.{Call, opening, advance, transfer, redemption, posting, payment, State, closed, unknown, end_of, judge, steady}
+use Rattle.register.specs.Calls.{Call, opening, advance, transfer, redemption, posting, payment, State, closed, unknown, end_of, judge}
 use Rattle.register.specs.Journal.{Journal, Evening, state_of, evenings_to, taken, given, change}
-use Rattle.register.specs.Interest.{step, holder_interest, nominal_interest}
+use Rattle.register.specs.Interest.{step}
 use Rattle.register.specs.Mirrors.{Mirrors}
-use Rattle.register.specs.Rows.{accrued, posted, settled, gained, lost, worth, total_worth, total_holding, zero_row, at, moved, redeemed, paid_out, opened, opened_row}
+use Rattle.register.specs.Rows.{accrued, posted, settled, gained, lost, worth, total_worth, total_holding, at, moved, redeemed, paid_out, opened_row}
 use Rattle.register.specs.Rules.{View, seen_state, unit, first, days_on, with_rows, begun, ruled}
 use Rattle.register.proofs.Accepted.{payment_known, redemption_known, transfer_known, posting_open, advance_within, opening_good}
-use Rattle.register.proofs.Bounds.{Changed, changed_twice, lost_changes, gained_changes, settled_changes, sum_by_map, sum_by_same, sum_accrued, sum_opened, sum_none}
+use Rattle.register.proofs.Bounds.{changed_twice, lost_changes, gained_changes, settled_changes, sum_by_map, sum_by_same, sum_accrued, sum_opened, sum_none}
 use Rattle.register.proofs.Carry.{at_map, accrued_none, posted_none, posted_worth, held_set, set_holdings, set_worths, held_map, held_opened, at_opened}
 use Rattle.register.proofs.Counts.{asked_same, asked_rises}
-use Rattle.register.proofs.Dates.{next_date, date_in_range}
+use Rattle.register.proofs.Dates.{date_in_range}
 use Rattle.register.proofs.Seen.{held}
 use Rattle.register.proofs.Sound.{Sound}
 use Rattle.register.proofs.Telescope.{steps_add, sum_by_times}

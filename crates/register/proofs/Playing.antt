@@ -1,11 +1,10 @@
 -- The loop that plays a list of calls.
 -- Assumes nothing.
-use Rattle.std.proofs.Common.{◌≡◌, ℕ, ◌+◌, ◌<◌, ◌≤◌, min, List, [], ◌∷◌, ◌++◌, map, length, get_or, take, drop, set, Result, sym, refl, ap, ◌∙◌, ⊎_elim, append_assoc, append-nil, arith}
+use Rattle.std.proofs.Common.{◌≡◌, ℕ, ◌+◌, ◌<◌, ◌≤◌, min, List, [], ◌∷◌, ◌++◌, map, length, get_or, take, drop, set, sym, refl, ap, ◌∙◌, ⊎_elim, append_assoc, append-nil, arith}
 use lib.ListN.{length-map}
-use Rattle.std.proofs.lemmas.List.{at_drop_more, at_drop_all, take_more_set, map-append, drop-set-lt, drop-drop, drop_all, drop-map, take-append-drop, length-take, get_or-take, get_or-map}
+use Rattle.std.proofs.lemmas.List.{at_drop_more, take_more_set, map-append, drop-set-lt, drop-drop, drop_all, drop-map, take-append-drop, length-take, get_or-take, get_or-map}
 use Rattle.register.specs.declared.call.Call.TheVariants.{Post}
 use Rattle.std.proofs.lemmas.Bool.{cases_lt}
-use Rattle.days.specs.Refusals.{Told}
 use Rattle.register.specs.declared.answer.Answer.{Answer}
 use Rattle.register.specs.declared.call.Call.{Call as Made}
 use Rattle.register.specs.Calls.{Call, posting}

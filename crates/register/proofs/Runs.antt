@@ -1,15 +1,15 @@
 -- A run of calls keeps the law.
 -- Assumes nothing.
-use Rattle.std.proofs.Common.{◌≡◌, ℕ, zero, suc, ◌+◌, ◌<◌, ◌≤◌, List, [], ◌∷◌, ◌++◌, length, get_or, take, drop, Some, None, Ok, Err, Option, Result, sym, refl, ap, ◌∙◌, append_assoc, append-nil, zero-mul, arith, MatchResult}
+use Rattle.std.proofs.Common.{◌≡◌, ℕ, zero, suc, ◌<◌, List, [], ◌∷◌, ◌++◌, length, get_or, take, Some, None, Ok, Option, sym, refl, ap, ◌∙◌, append_assoc, append-nil, zero-mul, arith, MatchResult}
 use Rattle.days.specs.Refusals.{Told}
 use Rattle.counts.specs.Counting.{asked, Lawful}
 use Rattle.register.specs.Calls.{Call, posting, judge}
-use Rattle.register.specs.Journal.{journal, state_of, fresh}
-use Rattle.register.specs.Mirrors.{Mirrors, After}
-use Rattle.register.specs.Rows.{worth, opened, opened_row, at}
-use Rattle.register.specs.Rules.{View, seen_state, unit, ruled}
+use Rattle.register.specs.Journal.{journal, state_of}
+use Rattle.register.specs.Mirrors.{After}
+use Rattle.register.specs.Rows.{worth, opened_row}
+use Rattle.register.specs.Rules.{View, seen_state, unit}
 use Rattle.register.specs.Runs.{fresh_view, left_by, said_by, stepped, outcome, run, outcomes, LawOfInterest}
-use Rattle.register.proofs.Bounds.{sum_opened, sum_none}
+use Rattle.register.proofs.Bounds.{sum_opened}
 use Rattle.register.proofs.Carry.{at_opened}
 use Rattle.register.proofs.Counts.{asked_same}
 use Rattle.register.proofs.Law.{call_law}

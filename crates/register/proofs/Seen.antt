@@ -1,11 +1,10 @@
 -- What is seen of a register's rows and dates.
 -- Assumes nothing.
-use Rattle.std.proofs.Common.{◌≡◌, ℕ, ◌+◌, ◌<◌, ◌≤◌, Bool, true, false, ◌||◌, eqb, ltb, leb, List, map, length, get_or, take, sym, refl, ap, ◌∙◌, arith}
+use Rattle.std.proofs.Common.{◌≡◌, ℕ, ◌<◌, ◌≤◌, false, leb, List, map, length, get_or, take, ap, ◌∙◌, arith}
 use lib.ListN.{length-map}
 use Rattle.std.proofs.lemmas.List.{length-take-le, get_or-take, get_or-map}
 use Rattle.std.proofs.lemmas.Bool.{leb-false}
 use Rattle.register.specs.declared.row.Row.{Row}
-use Rattle.register.specs.Calls.{State, unknown, uncovered, closed, end_of}
 use Rattle.register.specs.Rows.{zero_row}
 
 abbrev pub held : ℕ → List Row → List ℕ

@@ -1,11 +1,11 @@
 -- What holds of every journal.
 -- Assumes nothing.
-use Rattle.std.proofs.Common.{◌≡◌, ℕ, ◌+◌, ◌<◌, ◌≤◌, Bool, true, false, cond, eqb, leb, List, [], ◌∷◌, ◌++◌, length, get_or, is_some, Some, None, fold, Option, sym, refl, ap, ◌∙◌, ⊎_elim, arith}
+use Rattle.std.proofs.Common.{◌≡◌, ◌+◌, ◌≤◌, Bool, true, false, cond, eqb, List, [], ◌∷◌, ◌++◌, length, get_or, is_some, Some, None, fold, Option, refl, ◌∙◌, arith}
 use Rattle.std.proofs.lemmas.List.Sums.{fold_push}
-use Rattle.std.proofs.lemmas.Bool.{both_ways, cases_Bool, eqb-true, eqb-false, leb-false}
+use Rattle.std.proofs.lemmas.Bool.{both_ways, eqb-true, leb-false}
 use Rattle.days.specs.Refusals.{Told}
-use Rattle.register.specs.Calls.{Call, opening, advance, transfer, redemption, posting, payment, State, empty, closed, end_of, steady, judge}
-use Rattle.register.specs.Journal.{Journal, Evening, fresh, state_of, change, next, journal}
+use Rattle.register.specs.Calls.{Call, opening, advance, transfer, redemption, posting, payment, empty, closed, end_of, steady, judge}
+use Rattle.register.specs.Journal.{Journal, fresh, state_of, change, next, journal}
 use Rattle.register.proofs.Accepted.{opening_good, advance_within, posting_open}
 
 pub record Sound (j : Journal) : Type 0 where

@@ -1,7 +1,7 @@
 -- Interest by the evenings of a journal.
 -- Assumes nothing.
 use Rattle.std.specs.Prelude.{ℕ, ◌+◌, ◌-◌, ◌*◌, cond, List, [], ◌∷◌, sum_by, nat_le, slice_index}
-use Rattle.register.specs.Journal.{Evening, Journal}
+use Rattle.register.specs.Journal.{Journal}
 
 -- the first date of the period that holds a day: the last date that is not after it
 unfoldable pub first_of : List ℕ → ℕ → ℕ → ℕ

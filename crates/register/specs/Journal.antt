@@ -1,6 +1,6 @@
 -- The journal: a plain machine that is fed the calls on a register, and notes who held what on which evening.
 -- Assumes nothing.
-use Rattle.std.specs.Prelude.{ℕ, ◌+◌, ◌-◌, cond, List, [], ◌∷◌, ◌++◌, map, is_some, fold, sum, ◌==◌, slice_index, slice_set}
+use Rattle.std.specs.Prelude.{ℕ, ◌+◌, ◌-◌, cond, List, [], ◌++◌, map, is_some, fold, sum, ◌==◌, slice_index, slice_set}
 use Rattle.std.specs.List.{range_with_len}
 use Rattle.register.specs.Calls.{Call, opening, advance, transfer, redemption, posting, payment, State, end_of, judge}
 

@@ -3,7 +3,7 @@
 use Rattle.std.specs.Prelude.{◌≡◌, ℕ, ◌-◌, List, [], ◌∷◌, ◌++◌, Some, None, Result, MatchResult, slice_index}
 use Rattle.days.specs.Refusals.{told}
 use Rattle.days.specs.declared.refusal.Refusal.{Refusal}
-use Rattle.register.specs.Calls.{Call, advance, judge}
+use Rattle.register.specs.Calls.{Call, judge}
 use Rattle.register.specs.Journal.{Journal, journal, state_of}
 use Rattle.register.specs.Interest.{holder_interest, nominal_interest}
 use Rattle.register.specs.Rows.{at, worth, total_worth, total_holding}

@@ -1,6 +1,6 @@
 -- The rules of a register: what each call answers, and what it leaves in the rows.
 -- Assumes nothing.
-use Rattle.std.specs.Prelude.{ℕ, ◌+◌, ◌-◌, ◌*◌, cond, List, [], ◌∷◌, ◌++◌, map, length, take, replicate, sum, ◌==◌, slice_index}
+use Rattle.std.specs.Prelude.{ℕ, ◌+◌, ◌-◌, ◌*◌, cond, List, map, length, take, sum, ◌==◌, slice_index}
 use Rattle.register.specs.declared.row.Row.{Row}
 use Rattle.register.specs.Calls.{Call, opening, advance, transfer, redemption, posting, payment, State, end_of}
 use Rattle.register.specs.Rows.{accrued, posted, total_units, at, moved, redeemed, paid_out, opened}

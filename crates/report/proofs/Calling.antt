@@ -1,16 +1,16 @@
 -- A call on a line, and what it leaves to the calls behind it.
 -- Assumes nothing.
-use Rattle.std.proofs.Common.{◌≡◌, ℕ, ◌+◌, ◌<◌, ◌≤◌, true, List, [], ◌∷◌, length, get_or, drop, Some, None, Ok, Err, Option, Result, sym, refl, ap, ◌∙◌, subst, add_assoc, arith}
+use Rattle.std.proofs.Common.{◌≡◌, ℕ, ◌+◌, ◌<◌, ◌≤◌, List, [], ◌∷◌, length, get_or, drop, Some, None, Ok, Err, Option, Result, sym, refl, ap, ◌∙◌, subst, arith}
 use Rattle.std.proofs.lemmas.List.{at_drop_more, at_drop_all}
-use Rattle.days.specs.Refusals.{Told, told}
+use Rattle.days.specs.Refusals.{Told}
 use Rattle.days.specs.declared.refusal.Refusal.{Refusal}
-use Rattle.register.specs.Calls.{Call, judge}
+use Rattle.register.specs.Calls.{Call}
 use Rattle.register.specs.Mirrors.{Follows}
-use Rattle.register.specs.Rules.{View, seen_state, answered, ruled}
+use Rattle.register.specs.Rules.{View}
 use Rattle.register.specs.Runs.{stepped, outcome, run, left_by, said_by}
 use Rattle.text.specs.declared.line.Line.{Line}
 use Rattle.text.specs.declared.line.Line.TheVariants.{Posting}
-use Rattle.report.specs.Deals.{CallLine, numbered}
+use Rattle.report.specs.Deals.{numbered}
 use Rattle.report.specs.Parts.{part, call_in, lead, leading}
 use Rattle.report.specs.Printed.{answer_line}
 use Rattle.writing.specs.Laying.{Laid}

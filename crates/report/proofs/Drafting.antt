@@ -1,9 +1,8 @@
 -- A draft that one piece after another is put behind: as long as all of it is short, nothing is cut off.
 -- Assumes nothing.
-use Rattle.std.proofs.Common.{◌≡◌, ℕ, ◌+◌, ◌^◌, ◌<◌, ◌≤◌, List, [], ◌∷◌, ◌++◌, length, take, decimal, sym, refl, ap, ◌∙◌, append_assoc, arith}
-use Rattle.std.proofs.lemmas.List.{take_all, length-append}
+use Rattle.std.proofs.Common.{◌≡◌, ℕ, ◌≤◌, List, [], ◌++◌, length, take, ap, ◌∙◌}
+use Rattle.std.proofs.lemmas.List.{take_all}
 use Rattle.writing.proofs.Cuts.{cut_again}
-use Rattle.report.specs.Printed.{field}
 
 -- the first piece, in an empty draft
 pub begun : (t t' xs : List ℕ) → t ≡ [] → t' ≡ take 128 (t ++ xs) → t' ≡ take 128 xs

@@ -1,6 +1,6 @@
 -- Lines laid one after another: what is still to be laid, from where the buffer stands, gives the whole.
 -- Assumes nothing.
-use Rattle.std.proofs.Common.{◌≡◌, ℕ, List, [], ◌∷◌, Ok, Err, Result, ap, subst}
+use Rattle.std.proofs.Common.{◌≡◌, ℕ, List, [], ◌∷◌, Ok, Err, Result, subst}
 use Rattle.writing.specs.Laying.{Laid}
 use Rattle.writing.specs.declared.laying.Full.{Full}
 use Rattle.writing.proofs.Lays.{laid_none, laid_more, laid_stops}

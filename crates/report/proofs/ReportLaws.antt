@@ -1,9 +1,8 @@
 -- The law of interest on every report, whatever basis the deal names.
 -- Assumes nothing.
-use Rattle.std.proofs.Common.{◌≡◌, ℕ, ◌*◌, ◌≤◌, Bool, List, Result, arith}
+use Rattle.std.proofs.Common.{ℕ, Bool, List, Result}
 use Rattle.days.specs.Refusals.{Told}
 use Rattle.counts.specs.Bases.{actual, bond, european}
-use Rattle.counts.specs.Counting.{Lawful}
 use Rattle.counts.specs.Actual.{actual_360_lawful, actual_365_lawful}
 use Rattle.counts.specs.Places.{bond_lawful, european_lawful}
 use Rattle.schedules.specs.Schedule.{scheduled}

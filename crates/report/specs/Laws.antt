@@ -12,7 +12,7 @@ use Rattle.register.specs.Runs.{fresh_view, outcome}
 use Rattle.register.specs.declared.row.Row.{Row}
 use Rattle.report.specs.Deals.{DealLines, scheduled_deal}
 use Rattle.report.specs.Printed.{st_lines}
-use Rattle.report.specs.Reports.{count_by, per_by, table_size, lines_by, report_lines}
+use Rattle.report.specs.Reports.{count_by, per_by, table_size, lines_by}
 
 abbrev pub opening_of : DealLines → List ℕ → Call
 opening_of deal days = opening days deal.terms.rate.value deal.holdings

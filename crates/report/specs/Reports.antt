@@ -1,6 +1,6 @@
 -- The report of a deal: its schedule, the answer to each call on it, and what each holder has in the end.
 -- Assumes nothing.
-use Rattle.std.specs.Prelude.{◌≡◌, ℕ, ◌+◌, ◌<◌, ◌≤◌, Bool, List, [], ◌∷◌, ◌++◌, map, length, get_or, Some, None, Ok, Err, Option, Result, MatchOption}
+use Rattle.std.specs.Prelude.{◌≡◌, ℕ, Bool, List, [], ◌∷◌, ◌++◌, map, Some, None, Ok, Err, Option, Result, MatchOption}
 use Rattle.days.specs.Refusals.{Told, told}
 use Rattle.days.specs.declared.refusal.Refusal.{Refusal}
 use Rattle.counts.specs.Bases.{actual, bond, european}

@@ -6,7 +6,7 @@ use Rattle.days.specs.Calendar.{day_of, last_day}
 use Rattle.schedules.specs.declared.deal.Deal.{Deal}
 use Rattle.schedules.specs.declared.deal.Stub.{Stub}
 use Rattle.schedules.specs.declared.deal.Stub.TheVariants.{ShortFirst, ShortLast}
-use Rattle.schedules.specs.Dates.{Sound, month_number, month_days, counted, counted_by, steps}
+use Rattle.schedules.specs.Dates.{Sound, month_number, month_days, counted_by, steps}
 use Rattle.schedules.proofs.MonthStarts.{on_day_within, day_from, month_within, earlier_month, month_mono}
 
 -- the months of the term, and of k steps

@@ -1,6 +1,6 @@
 -- What stands behind a mark, field by field.
 -- Assumes nothing.
-use Rattle.std.proofs.Common.{◌≡◌, List, [], ◌∷◌, IsErrAnd, Ok, Err, Result, sym, refl, ap, ◌∙◌}
+use Rattle.std.proofs.Common.{◌≡◌, List, [], ◌∷◌, IsErrAnd, Ok, Err, Result, refl, ap, ◌∙◌}
 use Rattle.std.proofs.lemmas.Result.{err_from_is_err_and}
 use Rattle.text.specs.declared.at.At.{At}
 use Rattle.text.specs.declared.fault.Fault.{Fault}

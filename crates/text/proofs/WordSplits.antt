@@ -1,10 +1,10 @@
 -- The first word of a line reaches to its first space.
 -- Assumes nothing.
-use Rattle.std.proofs.Common.{◌≡◌, ℕ, zero, suc, ◌+◌, ◌-◌, ◌<◌, ◌≤◌, Bool, true, false, cond, eqb, ltb, leb, List, [], ◌∷◌, length, get_or, take, drop, Err, sym, refl, ap, ◌∙◌, inl, inr, add-zero, add_assoc, add-suc, add_comm, add-one, arith, length-drop, get_or-drop}
+use Rattle.std.proofs.Common.{◌≡◌, ℕ, zero, suc, ◌+◌, ◌-◌, ◌<◌, ◌≤◌, cond, eqb, ltb, List, [], ◌∷◌, length, get_or, take, drop, Err, sym, refl, ◌∙◌, inl, inr, add-zero, add-one, arith, length-drop, get_or-drop}
 use Rattle.std.proofs.lemmas.List.{drop-drop}
 use Rattle.std.proofs.lemmas.Bool.{eq-eqb, ne_eqb, lt-ltb, le-ltb, le-leb, lt-leb, cases_lt, cases_Bool}
 use Rattle.days.specs.declared.refusal.Refusal.TheVariants.{BadField}
-use Rattle.text.specs.Cuts.{Word, words, longer, space}
+use Rattle.text.specs.Cuts.{Word, words, space}
 use Rattle.text.specs.Fields.{Ending, fault, none_left}
 use Rattle.text.specs.Left.{left_from, word_at}
 

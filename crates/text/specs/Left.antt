@@ -7,7 +7,7 @@ use Rattle.text.specs.declared.at.At.{At}
 use Rattle.text.specs.declared.fault.Fault.{Fault}
 use Rattle.text.specs.declared.fields.Fields.{Fields}
 use Rattle.text.specs.Cuts.{Word, words}
-use Rattle.text.specs.Fields.{Ending, fault, placed, field, none_left}
+use Rattle.text.specs.Fields.{Ending, fault, placed, field}
 use Rattle.text.specs.Kinds.{Kind, Said}
 
 abbrev pub left_from : List ℕ → ℕ → List Word

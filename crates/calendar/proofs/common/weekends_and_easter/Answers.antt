@@ -1,4 +1,4 @@
-use Rattle.std.proofs.Common.{◌≡◌, true, is_ok, Ok, Err, Result, refl, ⊎_elim, arith, MatchResult}
+use Rattle.std.proofs.Common.{◌≡◌, true, is_ok, Ok, Err, Result, refl, arith, MatchResult}
 use lib.Count.{ones}
 use Rattle.calendar.proofs.common.weekends_and_easter.Goals as goal
 

@@ -1,4 +1,4 @@
-use Rattle.std.proofs.Common.{◌≡◌, leb, arith}
+use Rattle.std.proofs.Common.{leb, arith}
 use Rattle.days.specs.Calendar.{last_day, month_end}
 use Rattle.days.proofs.Checks.{some_tells}
 use Rattle.days.proofs.Ends.{end_after}

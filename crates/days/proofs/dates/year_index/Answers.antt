@@ -1,7 +1,3 @@
-use Rattle.std.proofs.Common.{◌≡◌, suc, ◌-◌, ◌/◌, ◌<◌, ◌≤◌, arith}
-use Rattle.std.proofs.lemmas.Bool.Decides.{nat_tests}
-use Rattle.days.specs.Spans.{start_of}
-use Rattle.days.specs.Calendar.{year_span}
 use Rattle.days.proofs.Years.{guess_high, guess_low}
 use Rattle.days.proofs.dates.year_index.Goals as goal
 

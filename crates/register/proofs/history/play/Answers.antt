@@ -1,4 +1,4 @@
-use Rattle.std.proofs.Common.{◌≡◌, ◌<◌, ◌++◌, map, length, get_or, drop, ap, ◌∙◌, arith}
+use Rattle.std.proofs.Common.{◌<◌, ◌++◌, map, length, get_or, drop, ap, ◌∙◌, arith}
 use Rattle.counts.specs.Counting.{asked}
 use Rattle.register.specs.declared.call.Call.TheVariants.{Post}
 use Rattle.register.specs.Plain.{plain, played}

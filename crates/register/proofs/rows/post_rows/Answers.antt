@@ -1,6 +1,6 @@
-use Rattle.std.proofs.Common.{◌≡◌, ◌+◌, ◌/◌, ◌^◌, ◌<◌, get_or, take, ap, ◌∙◌, arith}
+use Rattle.std.proofs.Common.{◌≡◌, ◌+◌, ◌/◌, ◌^◌, ◌<◌, take, ap, ◌∙◌, arith}
 use Rattle.std.proofs.lemmas.List.{take_all}
-use Rattle.register.specs.Rows.{posted, zero_row, total_units}
+use Rattle.register.specs.Rows.{posted, total_units}
 use Rattle.register.proofs.Sweeps.{read_unswept, sweep_more, swept_all, post_fits, units_fit}
 use Rattle.register.proofs.rows.post_rows.Goals as goal
 

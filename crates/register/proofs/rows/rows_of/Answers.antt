@@ -1,4 +1,4 @@
-use Rattle.std.proofs.Common.{◌≡◌, set, ap, ◌∙◌, arith}
+use Rattle.std.proofs.Common.{set, ap, ◌∙◌, arith}
 use Rattle.register.proofs.Sweeps.{opened_more, opened_all}
 use Rattle.register.proofs.rows.rows_of.Goals as goal
 

@@ -1,6 +1,6 @@
-use Rattle.std.proofs.Common.{◌≡◌, ◌+◌, ◌<◌, ◌≤◌, length, get_or, take, set, sym, ap, ◌∙◌, arith, length-set}
+use Rattle.std.proofs.Common.{◌≡◌, length, get_or, take, sym, ap, ◌∙◌, arith, length-set}
 use Rattle.text.specs.declared.line.Line.TheVariants.{Posting}
-use Rattle.report.specs.Parts.{part, holding_in, leading}
+use Rattle.report.specs.Parts.{part, holding_in}
 use Rattle.report.proofs.Holders.{holding_more, holding_room, holdings_end, no_holding_at, no_holding_past}
 use Rattle.report.proofs.OtherLines.{no_holding}
 use Rattle.report.proofs.deal.copy_holdings.Goals as goal

@@ -1,4 +1,4 @@
-use Rattle.std.proofs.Common.{◌≡◌, ◌-◌, take, sym, refl, ap, ◌∙◌}
+use Rattle.std.proofs.Common.{◌-◌, take, sym, refl, ap, ◌∙◌}
 use Rattle.std.proofs.lemmas.Result.{err_from_is_err_and}
 use Rattle.counts.specs.Counting.{asked}
 use Rattle.schedules.specs.Schedule.{scheduled}

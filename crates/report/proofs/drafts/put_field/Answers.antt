@@ -1,7 +1,5 @@
-use Rattle.std.proofs.Common.{List, [], ◌∷◌, ◌++◌, ◌∙◌, append_assoc, arith}
-use Rattle.std.proofs.lemmas.List.{length-append}
-use Rattle.report.specs.Printed.{space, field, letter, ended}
-use Rattle.report.proofs.Drafting.{begun, then, whole}
+use Rattle.std.proofs.Common.{[], ◌∷◌, ◌∙◌, arith}
+use Rattle.report.specs.Printed.{space}
 use Rattle.writing.proofs.Numerals.{decimal_short}
 use Rattle.writing.proofs.Cuts.{cut_more}
 use Rattle.report.proofs.drafts.put_field.Goals as goal

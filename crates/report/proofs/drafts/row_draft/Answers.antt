@@ -1,6 +1,6 @@
 use Rattle.std.proofs.Common.{ℕ, List, [], ◌∷◌, ◌++◌, append_assoc, arith}
 use Rattle.std.proofs.lemmas.List.{length-append}
-use Rattle.report.specs.Printed.{space, field, ended}
+use Rattle.report.specs.Printed.{field, ended}
 use Rattle.report.proofs.Drafting.{begun, then, whole}
 use Rattle.report.proofs.drafts.row_draft.Goals as goal
 

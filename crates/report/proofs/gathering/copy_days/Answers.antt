@@ -1,7 +1,7 @@
-use Rattle.std.proofs.Common.{◌<◌, length, get_or, set, ap, arith, length-set}
+use Rattle.std.proofs.Common.{length, get_or, ap, arith, length-set}
 use Rattle.text.specs.declared.line.Line.TheVariants.{Posting}
 use Rattle.report.specs.Parts.{part, day_in}
-use Rattle.report.proofs.Finds.{Copied, copied_room, copied_more, copied_past, copied_all}
+use Rattle.report.proofs.Finds.{copied_room, copied_more, copied_past, copied_all}
 use Rattle.report.proofs.OtherLines.{no_closed_day}
 use Rattle.report.proofs.gathering.copy_days.Goals as goal
 use Rattle.report.proofs.gathering.copy_days.Goals.{in-ClosedDay, in_default}

@@ -1,8 +1,8 @@
-use Rattle.std.proofs.Common.{◌<◌, length, get_or, set, ap, ◌∙◌, arith, length-set, w32, SFits, rules}
+use Rattle.std.proofs.Common.{length, get_or, set, ap, ◌∙◌, arith, length-set, w32, SFits, rules}
 use Rattle.std.proofs.lemmas.Int.{to_z-of_z}
 use Rattle.text.specs.declared.line.Line.TheVariants.{Posting}
 use Rattle.report.specs.Parts.{part, offset_in}
-use Rattle.report.proofs.Finds.{Copied, copied_room, copied_more, copied_past, copied_all}
+use Rattle.report.proofs.Finds.{copied_room, copied_more, copied_past, copied_all}
 use Rattle.report.proofs.OtherLines.{no_offset}
 use Rattle.report.proofs.gathering.copy_offsets.Goals as goal
 use Rattle.report.proofs.gathering.copy_offsets.Goals.{in-Offset, in_default}

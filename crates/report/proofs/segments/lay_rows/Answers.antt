@@ -1,4 +1,4 @@
-use Rattle.std.proofs.Common.{◌+◌, ◌<◌, length, get_or, drop, sym, arith}
+use Rattle.std.proofs.Common.{◌+◌, ◌<◌, length, get_or, drop, arith}
 use Rattle.std.proofs.lemmas.Result.{err_from_is_err_and}
 use Rattle.std.proofs.lemmas.List.{at_drop_more, at_drop_all}
 use Rattle.register.specs.Rows.{zero_row}

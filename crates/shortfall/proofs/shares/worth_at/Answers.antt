@@ -1,4 +1,4 @@
-use Rattle.std.proofs.Common.{sym, refl, arith}
+use Rattle.std.proofs.Common.{refl, arith}
 use Rattle.std.proofs.lemmas.List.{get_or_past}
 use Rattle.register.specs.Rows.{zero_row}
 use Rattle.shortfall.proofs.shares.worth_at.Goals as goal

@@ -1,4 +1,4 @@
-use Rattle.std.proofs.Common.{sym, refl, ◌∙◌}
+use Rattle.std.proofs.Common.{sym, ◌∙◌}
 use Rattle.text.specs.Kinds.{number}
 use Rattle.text.proofs.BodySteps.{handed_on, taken, refused, ended, not_ended}
 use Rattle.text.proofs.body.read_payment.Goals as goal

@@ -1,4 +1,4 @@
-use Rattle.std.proofs.Common.{sym, refl, ◌∙◌}
+use Rattle.std.proofs.Common.{sym, ◌∙◌}
 use Rattle.text.proofs.BodySteps.{handed_on, ended, not_ended}
 use Rattle.text.proofs.body.read_posting.Goals as goal
 

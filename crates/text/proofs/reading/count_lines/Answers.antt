@@ -1,4 +1,4 @@
-use Rattle.std.proofs.Common.{◌≡◌, ◌+◌, ◌≤◌, get_or, drop, refl, ◌∙◌, arith}
+use Rattle.std.proofs.Common.{◌+◌, get_or, drop, arith}
 use Rattle.std.proofs.lemmas.List.{at_drop_more, at_drop_all}
 use Rattle.text.specs.Cuts.{cut_lines}
 use Rattle.text.specs.Reading.{line_count}

@@ -1,5 +1,4 @@
-use Rattle.std.proofs.Common.{length, get_or, Some, sym, ap, ◌∙◌, inl, inr}
-use Rattle.std.proofs.lemmas.Bool.{ne_eqb}
+use Rattle.std.proofs.Common.{Some, ap, ◌∙◌, inl, inr}
 use Rattle.text.specs.Words.{digits_from}
 use Rattle.text.proofs.Dated.{day_found, date_by_parts, wrong_length, no_hyphen, last_part}
 use Rattle.text.proofs.words.date_word.Goals as goal

@@ -1,4 +1,4 @@
-use Rattle.std.proofs.Common.{◌≡◌, ℕ, ◌+◌, ◌-◌, ◌*◌, ◌^◌, ◌<◌, ◌⊎◌, length, get_or, sym, refl, ◌∙◌, inl, inr, arith, lit<}
+use Rattle.std.proofs.Common.{◌+◌, get_or, sym, refl, ◌∙◌, arith, lit<}
 use Rattle.std.specs.Int.{IsInRange}
 use Rattle.std.proofs.lemmas.List.{at_drop_all}
 use Rattle.text.specs.Words.{bits_from}

@@ -1,4 +1,4 @@
-use Rattle.std.proofs.Common.{◌≡◌, ◌<◌, length, set, arith, length-set}
+use Rattle.std.proofs.Common.{◌<◌, length, set, arith, length-set}
 use Rattle.register.proofs.Bounds.{change_bounded, changed_twice, lost_changes, gained_changes, row_most}
 use Rattle.register.proofs.Books.{bounded}
 use Rattle.register.proofs.book.Book.transfer.Goals as goal

@@ -1,4 +1,4 @@
-use Rattle.std.proofs.Common.{sym, arith}
+use Rattle.std.proofs.Common.{sym}
 use Rattle.register.specs.Rules.{seen_state}
 use Rattle.register.specs.Views.{view_of}
 use Rattle.register.proofs.Accepted.{redemption_known}

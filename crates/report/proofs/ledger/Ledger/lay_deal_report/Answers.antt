@@ -1,8 +1,7 @@
-use Rattle.std.proofs.Common.{◌≡◌, ℕ, ◌+◌, ◌<◌, ◌≤◌, List, length, take, drop, sym, ap, ◌∙◌, subst, arith, length-drop}
+use Rattle.std.proofs.Common.{ℕ, ◌+◌, ◌<◌, ◌≤◌, length, take, drop, sym, ap, ◌∙◌, subst, arith, length-drop}
 use Rattle.std.proofs.lemmas.List.{take_rest}
 use Rattle.report.specs.Deals.{starts_of}
 use Rattle.report.specs.Parts.{holding_in, leading}
-use Rattle.text.specs.declared.line.Line.{Line}
 use Rattle.report.proofs.Reporting.{deal_there, deal_stands, deal_reported, laid_within}
 use Rattle.report.proofs.ledger.Ledger.lay_deal_report.Goals as goal
 

@@ -1,4 +1,4 @@
-use Rattle.std.proofs.Common.{◌≡◌, ℕ, ◌<◌, length, get_or, sym, ap, subst, arith}
+use Rattle.std.proofs.Common.{◌<◌, length, get_or, ap, arith}
 use Rattle.report.specs.Deals.{starts_of}
 use Rattle.report.proofs.DealPlaces.{nth_deal}
 use Rattle.report.proofs.ledger.Ledger.place_of.Goals as goal

@@ -1,4 +1,4 @@
-use Rattle.std.proofs.Common.{◌≡◌, ◌≤◌, length, Ok, Err, refl, ap, arith}
+use Rattle.std.proofs.Common.{◌≤◌, length, Ok, Err, refl, ap, arith}
 use Rattle.std.specs.List.{slice_get}
 use Rattle.report.specs.Deals.{starts_of, deals_of}
 use Rattle.report.specs.Parts.{closed_by}
