@@ -1,7 +1,7 @@
 // The six calls on a register. Each is its rule, and its share of the law of interest.
 ghost use Rattle.std.specs.Prelude.{◌≡◌, []};
 ghost use Rattle.counts.specs.Counting.{asked};
-ghost use Rattle.register.specs.Calls.{opening, advance as advance-call, transfer as transfer-call, redemption, posting, payment};
+ghost use Rattle.register.specs.Calls.{opening, advance as advance_call, transfer as transfer_call, redemption, posting, payment};
 ghost use Rattle.register.specs.Mirrors.{Follows, After, CarriesOn, CountsOn};
 ghost use Rattle.register.specs.Rules.{rows_in_use};
 ghost use Rattle.register.specs.Runs.{fresh_view};
@@ -43,8 +43,8 @@ impl<D: DayCount> Register<D> {
     // Lets interest accrue to a day of the current period; answers the counted days.
     pub fn advance(&mut self, day: u32) -> Result<u64, Refusal>
         ensures basis { self.new.basis ≡ self.old.basis }
-        ensures rule { Follows (asked (D.DayCount.counted self.old.basis)) D.DayCount.per (view_of self.old) (advance-call day) (view_of self.new) result }
-        ensures law { CarriesOn (asked (D.DayCount.counted self.old.basis)) D.DayCount.per (view_of self.old) (advance-call day) (view_of self.new) result }
+        ensures rule { Follows (asked (D.DayCount.counted self.old.basis)) D.DayCount.per (view_of self.old) (advance_call day) (view_of self.new) result }
+        ensures law { CarriesOn (asked (D.DayCount.counted self.old.basis)) D.DayCount.per (view_of self.old) (advance_call day) (view_of self.new) result }
         ensures days { CountsOn (asked (D.DayCount.counted self.old.basis)) D.DayCount.per (view_of self.old) day }
     {
         self.make_advance(day)
@@ -53,8 +53,8 @@ impl<D: DayCount> Register<D> {
     // Moves an amount of holding from one holder to another; answers the amount.
     pub fn transfer(&mut self, from: u64, to: u64, amount: u64) -> Result<u64, Refusal>
         ensures basis { self.new.basis ≡ self.old.basis }
-        ensures rule { Follows (asked (D.DayCount.counted self.old.basis)) D.DayCount.per (view_of self.old) (transfer-call from to amount) (view_of self.new) result }
-        ensures law { CarriesOn (asked (D.DayCount.counted self.old.basis)) D.DayCount.per (view_of self.old) (transfer-call from to amount) (view_of self.new) result }
+        ensures rule { Follows (asked (D.DayCount.counted self.old.basis)) D.DayCount.per (view_of self.old) (transfer_call from to amount) (view_of self.new) result }
+        ensures law { CarriesOn (asked (D.DayCount.counted self.old.basis)) D.DayCount.per (view_of self.old) (transfer_call from to amount) (view_of self.new) result }
     {
         self.make_transfer(from, to, amount)
     }
