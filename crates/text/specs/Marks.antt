@@ -76,24 +76,24 @@ most_holdings = 16
 
 -- before the first deal: the calendar, with one pattern at most
 abbrev pub allowed_in_calendar : Bool → Role → Bool
-allowed_in_calendar has-pattern a_pattern = not has-pattern
-allowed_in_calendar has-pattern a_closed_day = true
-allowed_in_calendar has-pattern an_offset = true
-allowed_in_calendar has-pattern a_deal = true
-allowed_in_calendar has-pattern a_holding = false
-allowed_in_calendar has-pattern a_call = false
+allowed_in_calendar has_pattern a_pattern = not has_pattern
+allowed_in_calendar has_pattern a_closed_day = true
+allowed_in_calendar has_pattern an_offset = true
+allowed_in_calendar has_pattern a_deal = true
+allowed_in_calendar has_pattern a_holding = false
+allowed_in_calendar has_pattern a_call = false
 
 -- behind a deal: holdings, until the first call; calls; the next deal
 abbrev pub allowed_in_deal : Bool → Role → Bool
-allowed_in_deal before-calls a_pattern = false
-allowed_in_deal before-calls a_closed_day = false
-allowed_in_deal before-calls an_offset = false
-allowed_in_deal before-calls a_deal = true
-allowed_in_deal before-calls a_holding = before-calls
-allowed_in_deal before-calls a_call = true
+allowed_in_deal before_calls a_pattern = false
+allowed_in_deal before_calls a_closed_day = false
+allowed_in_deal before_calls an_offset = false
+allowed_in_deal before_calls a_deal = true
+allowed_in_deal before_calls a_holding = before_calls
+allowed_in_deal before_calls a_call = true
 
 abbrev pub allowed : Standing → Mark → Bool
-allowed (InCalendar has-pattern days offsets) mark = allowed_in_calendar has-pattern (role mark)
+allowed (InCalendar has_pattern days offsets) mark = allowed_in_calendar has_pattern (role mark)
 allowed (InHoldings count) mark = allowed_in_deal true (role mark)
 allowed InCalls mark = allowed_in_deal false (role mark)
 
@@ -107,18 +107,18 @@ full_of days offsets holdings a_holding = nat_le most_holdings holdings
 full_of days offsets holdings a_call = false
 
 abbrev pub full : Standing → Mark → Bool
-full (InCalendar has-pattern days offsets) mark = full_of days offsets 0 (role mark)
+full (InCalendar has_pattern days offsets) mark = full_of days offsets 0 (role mark)
 full (InHoldings count) mark = full_of 0 0 count (role mark)
 full InCalls mark = full_of 0 0 0 (role mark)
 
 -- where the next line stands
 abbrev pub after_calendar : Bool → ℕ → ℕ → Role → Standing
-after_calendar has-pattern days offsets a_pattern = InCalendar true days offsets
-after_calendar has-pattern days offsets a_closed_day = InCalendar has-pattern (days + 1) offsets
-after_calendar has-pattern days offsets an_offset = InCalendar has-pattern days (offsets + 1)
-after_calendar has-pattern days offsets a_deal = InHoldings 0
-after_calendar has-pattern days offsets a_holding = InCalls
-after_calendar has-pattern days offsets a_call = InCalls
+after_calendar has_pattern days offsets a_pattern = InCalendar true days offsets
+after_calendar has_pattern days offsets a_closed_day = InCalendar has_pattern (days + 1) offsets
+after_calendar has_pattern days offsets an_offset = InCalendar has_pattern days (offsets + 1)
+after_calendar has_pattern days offsets a_deal = InHoldings 0
+after_calendar has_pattern days offsets a_holding = InCalls
+after_calendar has_pattern days offsets a_call = InCalls
 
 abbrev pub after_deal : Standing → Role → Standing
 after_deal one_more a_pattern = InCalls
@@ -129,6 +129,6 @@ after_deal one_more a_holding = one_more
 after_deal one_more a_call = InCalls
 
 abbrev pub next : Standing → Mark → Standing
-next (InCalendar has-pattern days offsets) mark = after_calendar has-pattern days offsets (role mark)
+next (InCalendar has_pattern days offsets) mark = after_calendar has_pattern days offsets (role mark)
 next (InHoldings count) mark = after_deal (InHoldings (count + 1)) (role mark)
 next InCalls mark = after_deal InCalls (role mark)
