@@ -34,16 +34,14 @@ fn days_before_year(index: u32) -> u32
     requires { index ≤ 300 }
     ensures { result ≡ start_of year_span index }
 {
-    let past_2100 = if index > 200 { 1 } else { 0 };
-    365 * index + index.saturating_sub(1) / 4 - past_2100
+    365 * index + index.saturating_sub(1) / 4 - u32::from(index > 200)
 }
 
 fn days_before_month(leaps: bool, index: u32) -> u32
     requires { index ≤ 12 }
     ensures { result ≡ start_of (month_span leaps) index }
 {
-    let leap_day = if leaps && index > 1 { 1 } else { 0 };
-    DAYS_BEFORE_MONTH[index as usize] + leap_day
+    DAYS_BEFORE_MONTH[index as usize] + u32::from(leaps && index > 1)
 }
 
 // The year that holds a day: 365 days a year pass at most one year too many.

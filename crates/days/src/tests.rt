@@ -1,5 +1,6 @@
 // Examples on the edges of the calendar.
 use crate::*;
+use std::test::Fail;
 
 #[test]
 fn days_and_dates(rt: HostRuntime) {
@@ -33,4 +34,19 @@ fn months_and_easters(rt: HostRuntime) {
     assert_eq!(rt; easter(2024), Date::new(2024, 3, 31).number());
     assert_eq!(rt; easter(1899), None);
     assert_eq!(rt; easter(2200), None);
+}
+
+#[test]
+fn texts(rt: HostRuntime) -> Result<(), Fail> {
+    let heap = rt.alloc();
+    let first = format!(in heap; "{}", Date::new(1900, 1, 1))?;
+    assert_eq!(rt; first.as_str(), "1900-01-01");
+    let past_the_end = format!(in heap; "{}", DateOrNone(Date::of(109_573)))?;
+    assert_eq!(rt; past_the_end.as_str(), "none");
+    let weekday = format!(in heap; "{:<9}|", Weekday::of(36_524))?;
+    assert_eq!(rt; weekday.as_str(), "Saturday |");
+    let refusal = format!(in heap; "{}", Refusal::NoDayToRollTo(4))?;
+    assert_eq!(rt; refusal.as_str(), "12, layer C, place 4");
+    assert_eq!(rt; u32::from(Weekday::Sunday), 6);
+    Ok(())
 }
