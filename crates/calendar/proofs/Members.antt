@@ -1,6 +1,6 @@
 -- The tests by which a list is searched say what `contains` answers.
 -- Assumes nothing.
-use Rattle.std.proofs.Common.{◌≡◌, ℕ, ◌≤◌, Bool, ◌||◌, eqb, List, ℤ, pos, negsuc, Decides, refl, ap, arith}
+use Rattle.std.proofs.Common.{◌≡◌, ℕ, ◌≤◌, Bool, ◌||◌, eqb, List, ℤ, Decides, refl}
 use Rattle.days.specs.Calendar.{last_day}
 use Rattle.std.proofs.lemmas.Bool.{le-ltb}
 use Rattle.std.specs.Ordering.{int_eq}

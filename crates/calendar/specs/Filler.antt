@@ -1,7 +1,7 @@
 -- An Easter rule is given back by its offsets, since zeros fill the rest of its array.
 -- Assumes nothing.
 use Rattle.std.specs.Prelude.{◌≡◌, ℕ, ◌-◌, ◌≤◌, ◌++◌, List, length, take, drop, replicate, ℤ, pos, refl}
-use Rattle.std.proofs.Common.{arith, ap}
+use Rattle.std.proofs.Common.{arith}
 use Rattle.std.proofs.lemmas.List.{length-take-le, length-append, length-replicate, drop-replicate}
 use Rattle.std.proofs.Math.Seq.{take-append_seam}
 use Rattle.calendar.specs.declared.movable.EasterRule.TheInside.{Inside}

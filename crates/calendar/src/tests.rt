@@ -73,9 +73,12 @@ fn good_friday(rt: HostRuntime) -> Result<(), Fail> {
     assert!(rt; set.is_closed(109_573));
     assert_eq!(rt; Convention::Following.roll(&set, 109_573), None);
     assert_eq!(rt;
-        Convention::from_letter('M'),
-        Some(Convention::ModifiedFollowing)
+        Convention::try_from('M'),
+        Ok(Convention::ModifiedFollowing)
     );
-    assert_eq!(rt; Convention::from_letter('m'), None);
+    assert_eq!(rt;
+        Convention::try_from('m'),
+        Err(UnknownLetter { letter: 'm' })
+    );
     Ok(())
 }

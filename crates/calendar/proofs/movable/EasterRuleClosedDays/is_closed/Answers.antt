@@ -1,4 +1,4 @@
-use Rattle.std.proofs.Common.{take, rules}
+use Rattle.std.proofs.Common.{rules}
 use Rattle.calendar.proofs.Around.{easter_answer}
 use Rattle.calendar.proofs.movable.EasterRuleClosedDays.is_closed.Goals as goal
 
