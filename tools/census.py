@@ -34,11 +34,12 @@ SEARCHES = {
 def files(commit):
     """Pairs of a path and its text."""
     if commit is None:
-        for top, _, names in sorted(os.walk("crates")):
-            for name in sorted(names):
-                path = os.path.join(top, name)
-                if path.endswith(".rt") and "/src" in top and name != "tests.rt":
-                    yield path, open(path, encoding="utf-8").read()
+        for crate in sorted(os.listdir("crates")):
+            for top, _, names in sorted(os.walk(os.path.join("crates", crate, "src"))):
+                for name in sorted(names):
+                    path = os.path.join(top, name)
+                    if path.endswith(".rt") and name != "tests.rt":
+                        yield path, open(path, encoding="utf-8").read()
         return
     listed = subprocess.run(
         ["git", "ls-tree", "-r", "--name-only", commit, "crates"], check=True, capture_output=True, text=True
