@@ -1,6 +1,5 @@
 pub mod Closed
 pub mod Kinds
-pub mod Filler
 pub mod Refused
 pub mod Rolling
 pub mod Relations

@@ -8,16 +8,15 @@ ghost use Rattle.calendar.specs.Refused.{OffsetsRefused};
 
 use crate::closed::ClosedDays;
 use days::{Date, Refusal, easter};
+use shortlist::ShortList;
 use std::marker::Model;
 
 const MOST_OFFSETS: usize = 8;
 
-// The offsets, each of which closes the day that stands there from Easter in each year. A rule is copied, and needs no
-// heap, so they lie in an array with their number beside it, and zeros behind them.
+// In contracts a rule is its offsets, each of which closes the day that stands there from Easter in each year.
 #[derive(Clone, Copy)]
 pub struct EasterRule {
-    offsets: [i32; MOST_OFFSETS],
-    count: usize,
+    offsets: ShortList<i32, MOST_OFFSETS>,
 }
 
 impl Model for EasterRule {
@@ -25,15 +24,9 @@ impl Model for EasterRule {
 
     ghost Value = { List ℤ };
 
-    ghost use Rattle.calendar.specs.Filler.{Filled, offsets_of, filled, gives_back};
+    ghost view = { λ rule. rule.offsets };
 
-    ghost view = { offsets_of };
-
-    ghost invariant = { Filled };
-
-    ghost inverse = { filled };
-
-    ghost inverse_ok = { gives_back };
+    ghost inverse = { λ offsets. record { offsets = offsets } };
 }
 
 impl EasterRule {
@@ -44,30 +37,22 @@ impl EasterRule {
         if !all_within_sixty(offsets) {
             return Err(Refusal::OffsetOutOfRange);
         }
-        if offsets.len() > MOST_OFFSETS {
-            return Err(Refusal::TooMany);
-        }
-        let count = offsets.len();
-        let mut kept = [0; MOST_OFFSETS];
-        kept[0..count].copy_from_slice(offsets);
-        Ok(EasterRule {
-            offsets: kept,
-            count,
-        })
+        let offsets = ShortList::from_slice(offsets).ok_or(Refusal::TooMany)?;
+        Ok(EasterRule { offsets })
     }
 
     // Whether an offset is one of those kept.
     fn keeps(&self, offset: i32) -> bool
         ensures { result ≡ offset_listed self.now offset }
     {
-        self.offsets[0..self.count].contains(&offset)
+        self.offsets.as_slice().contains(&offset)
     }
 }
 
 fn is_within_sixty(offset: i32) -> bool
     ensures { result ≡ within_sixty offset }
 {
-    -60 <= offset && offset <= 60
+    (-60..=60).contains(&offset)
 }
 
 fn all_within_sixty(offsets: &[i32]) -> bool
