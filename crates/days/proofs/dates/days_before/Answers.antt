@@ -17,8 +17,3 @@ overflow_add-result-2 c =
     c.days_before_month-before_month.ensures
     in
     omega (arith, sum.1)
-
-pub returns : goal.returns
-returns c =
-    (number_found _ _ _ c.is_leap.result _ _ c.requires c.is_leap.ensures c.days_before_year-before_year.ensures
-    c.days_before_month-before_month.ensures).0

@@ -21,9 +21,6 @@ returns-then-self-lt1 c =
 is_date : (y m d length : ℕ) → IsMonth y m × (length ≡ month_length y m) → 1 ≤ d → d ≤ length → IsDate y m d
 is_date y m d length is from to = record { month = is.0; day_from = from; day_to = omega (arith, is.1) }
 
-pub days_before-requires : goal.days_before-requires
-days_before-requires c = is_date _ _ _ _ c.in_ok-length.ensures c.if-self-lt1.false c.if-self-length.false
-
 pub returns : goal.returns
 returns c =
     record {
