@@ -1,4 +1,5 @@
 pub mod Cuts
+pub mod Filled
 pub mod Fitting
 pub mod Lays
 pub mod Loops

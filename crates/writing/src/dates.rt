@@ -1,7 +1,6 @@
 // Dates, as yyyy-mm-dd.
 ghost use Rattle.std.specs.Prelude.{◌≡◌, ◌+◌, ◌<◌, ◌≤◌, ◌++◌, take};
 ghost use Rattle.days.specs.Calendar.{last_day};
-ghost use Rattle.writing.specs.Drafts.{text_of};
 ghost use Rattle.writing.specs.Spelling.{spelled_date, dated};
 
 use crate::draft::Draft;
@@ -35,8 +34,8 @@ fn spelled(year: u32, month: u32, day: u32) -> [u8; 10]
 impl Draft {
     // A day above the range of the calendar has no date, and nothing is written.
     pub fn date(&mut self, day: u32)
-        ensures inside { day ≤ last_day → text_of self.new ≡ take 128 (text_of self.old ++ spelled_date day) }
-        ensures above { last_day < day → text_of self.new ≡ text_of self.old }
+        ensures inside { day ≤ last_day → self.new ≡ take 128 (self.old ++ spelled_date day) }
+        ensures above { last_day < day → self.new ≡ self.old }
     {
         if let Some((year, month, day_of_month)) = date_of(day) {
             self.word(&spelled(year, month, day_of_month));

