@@ -4,7 +4,6 @@ use Rattle.counts.specs.Counting.{asked}
 use Rattle.schedules.specs.Schedule.{scheduled}
 use Rattle.register.specs.Views.{view_of}
 use Rattle.days.specs.Refusals.{told}
-use Rattle.writing.specs.Drafts.{text_of}
 use Rattle.report.specs.Deals.{scheduled_deal}
 use Rattle.report.specs.Reports.{front_view}
 use Rattle.report.proofs.Fronts.{schedule_here, refused_here, dates_in_range, front_stops, front_opens, front_refused, whatever}
@@ -72,7 +71,7 @@ returns-in-Err g c =
       basis = refl;
       laid =
           front_refused count g.D.DayCount.per v terms.rate.value c.args.holdings.now c.args.number
-          (scheduled closed (scheduled_deal terms) 481) (told c.in-Err.refusal) (text_of c.refused_draft.result)
+          (scheduled closed (scheduled_deal terms) 481) (told c.in-Err.refusal) c.refused_draft.result
           c.args.out.now c.lay.new.out c.lay.result is c.refused_draft.ensures c.lay.ensures.laid;
       left =
           whatever c.lay.result
