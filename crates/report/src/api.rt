@@ -1,57 +1,58 @@
 // A text opened as a ledger, and the reports of its deals.
 ghost use Rattle.std.specs.Prelude.{◌≡◌, ◌<◌, ◌≤◌, [], ◌∷◌, length, take, IfOk, MatchResult, slice_index};
-ghost use Rattle.text.specs.Laws.{TextLaw, GoodLines};
-ghost use Rattle.text.specs.Marks.{start};
+ghost use Rattle.text.specs.Laws.{TextLaw};
 ghost use Rattle.text.specs.Meaning.{meaning};
 ghost use Rattle.writing.specs.Laying.{Laid};
 ghost use Rattle.std.specs.List.{slice_get};
 ghost use Rattle.report.specs.Deals.{starts_of, deals_of};
-ghost use Rattle.report.specs.Ledgers.{opened_text, stopped_by, DealReported, Reported, LawOfReport};
-ghost use Rattle.report.specs.Opened.{unless_refused, opened};
+ghost use Rattle.report.specs.Ledgers.{opened_text, stopped_by, DealReported, ReportOf, Reported, LawOfReport};
+ghost use Rattle.report.specs.Opened.{lines_of, opened};
 ghost use Rattle.report.specs.Printed.{ft_line};
 
 use crate::closings::Closings;
 use crate::deal::lay_report;
 use crate::drafts::fault_draft;
-use crate::ledger::Ledger;
+use crate::ledger::{Ledger, Opened};
 use crate::stopped::Stopped;
 use calendar::{DatedList, EasterRule, Union, WeekdayPattern};
 use days::Refusal;
 use text::{Fault, Line, Unread};
 use writing::{Full, lay};
 
-// Writes the places of the deals among the lines; answers how many there are.
-fn index_deals(lines: &[Line], deals: &mut [usize]) -> usize
-    requires { length lines.now ≤ length deals.old }
-    ensures within { result ≤ length deals.new }
-    ensures places { take result deals.new ≡ starts_of lines.now }
+// Writes the places of the deals among the lines into a table, and answers them.
+fn index_deals<'a>(lines: &[Line], table: &'a mut [usize]) -> &'a [usize]
+    requires { length lines.now ≤ length table.old }
+    ensures { result.now ≡ starts_of lines.now }
 {
     let mut count = 0;
-    for i in 0..lines.len() {
-        if let Line::Deal(_) = lines[i] {
-            deals[count] = i;
+    for (i, line) in lines.iter().enumerate() {
+        if let Line::Deal(_) = line {
+            table[count] = i;
             count += 1;
         }
     }
-    count
+    &table[..count]
 }
 
-// Reads a text into the table. Refused, no line counts.
-fn read_lines(text: &[u8], lines: &mut [Line], places: usize) -> (usize, Option<Unread>)
-    ensures within { (result.0 ≤ length lines.new) × (result.0 ≤ places) × (result.0 ≤ 65536) }
-    ensures opened { unless_refused result.1 (take result.0 lines.new) ≡ opened_text text.now (length lines.old) places }
-    ensures good { GoodLines start 1 (take result.0 lines.new) }
-    ensures law { TextLaw text.now (meaning text.now) }
-{
-    match text::read(text, lines) {
-        Ok(count) => {
-            if places < count {
-                (0, Some(Unread::NoRoom))
-            } else {
-                (count, None)
-            }
+impl<'a> Opened<'a> {
+    fn read(
+        text: &[u8],
+        lines: &'a mut [Line],
+        deals: &'a mut [usize],
+    ) -> Result<Opened<'a>, Unread>
+        ensures value { lines_of result ≡ opened_text text.now (length lines.old) (length deals.old) }
+        ensures law { TextLaw text.now (meaning text.now) }
+    {
+        let count = text::read(text, lines)?;
+        if deals.len() < count {
+            return Err(Unread::NoRoom);
         }
-        Err(unread) => (0, Some(unread)),
+        let lines = &lines[..count];
+        Ok(Opened {
+            lines,
+            deals: index_deals(lines, deals),
+            closings: Closings::of(lines),
+        })
     }
 }
 
@@ -63,14 +64,8 @@ impl<'a> Ledger<'a> {
         ensures value { opened result ≡ opened_text text.now (length lines.old) (length deals.old) }
         ensures law { TextLaw text.now (meaning text.now) }
     {
-        let (count, refused) = read_lines(text, lines, deals.len());
-        let lines = &lines[0..count];
-        let found = index_deals(lines, deals);
         Ledger {
-            lines,
-            deals: &deals[0..found],
-            closings: Closings::of(lines),
-            refused,
+            text: Opened::read(text, lines, deals),
         }
     }
 }
@@ -107,7 +102,7 @@ fn stopped(refusal: Refusal, written: usize) -> Stopped
     }
 }
 
-impl Ledger<'_> {
+impl Opened<'_> {
     // Where among the lines a deal stands.
     fn place_of(&self, deal: usize) -> usize
         requires { deal < length self.now.deals.now }
@@ -137,6 +132,20 @@ impl Ledger<'_> {
         }
     }
 
+    // The report of a deal, if there is one.
+    fn report(&self, deal: usize, out: &mut [u8]) -> Result<usize, Stopped>
+        ensures rule { ReportOf self.now.lines.now (slice_get (deals_of self.now.lines.now) deal) out.old result out.new }
+        ensures within { MatchResult result (λ end. end ≤ length out.new) (λ stopped. stopped.written ≤ length out.new) }
+    {
+        if deal >= self.deals.len() {
+            return Err(stopped(Refusal::NoSuchDeal, 0));
+        }
+        self.lay_deal_report(deal, out)
+            .map_err(|full| stopped(Refusal::BufferFull, full.written))
+    }
+}
+
+impl Ledger<'_> {
     // Lays the report of a deal, counted from 0, into the buffer, and answers how many bytes it has. Bytes beyond them stay.
     // Refused are, the first of these: a text that was refused, with nothing written; a deal that there is not, with
     // nothing written; and a line that does not fit the buffer, with the whole lines before it written.
@@ -145,15 +154,12 @@ impl Ledger<'_> {
         ensures law { LawOfReport (opened self.now) deal }
         ensures within { MatchResult result (λ end. end ≤ length out.new) (λ stopped. stopped.written ≤ length out.new) }
     {
-        if let Some(why) = self.refused {
-            return Err(Stopped { why, written: 0 });
-        }
-        if deal >= self.deals.len() {
-            return Err(stopped(Refusal::NoSuchDeal, 0));
-        }
-        match self.lay_deal_report(deal, out) {
-            Ok(end) => Ok(end),
-            Err(full) => Err(stopped(Refusal::BufferFull, full.written)),
+        match &self.text {
+            Ok(opened) => opened.report(deal, out),
+            Err(why) => Err(Stopped {
+                why: *why,
+                written: 0,
+            }),
         }
     }
 }

@@ -9,13 +9,13 @@ loop-i-init c = filled_none
 
 pub loop-i-preserved : goal.loop-i-preserved
 loop-i-preserved c =
-    let room : c.loop-i.count < length c.loop-i.deals = omega arith in
-    elim c.match-lines-i.branch [
-      | in-Deal w ↦ simp (w.deals-is, w.count-is)
+    let room : c.loop-i.count < length c.loop-i.table = omega arith in
+    elim c.match-line.branch [
+      | in-Deal w ↦ simp (w.table-is, w.count-is)
           (filled_more c.loop-i.invariant c.loop-i-test.true room (terms_from_deal _ _ w.in-Deal.is))
-      | in_default w ↦ simp (w.deals-is, w.count-is)
+      | in_default w ↦ simp (w.table-is, w.count-is)
           (filled_more_no c.loop-i.invariant c.loop-i-test.true (no_terms_elsewhere _ w.in_default.not-Deal))
     ]
 
 pub returns : goal.returns
-returns c = record { within = omega arith; places = filled_all c.loop-i.invariant c.loop-i-test.false }
+returns c = filled_all c.loop-i.invariant c.loop-i-test.false

@@ -3,7 +3,7 @@ use Rattle.std.proofs.lemmas.List.{take_rest}
 use Rattle.report.specs.Deals.{starts_of}
 use Rattle.report.specs.Parts.{holding_in, leading}
 use Rattle.report.proofs.Reporting.{deal_there, deal_stands, deal_reported, laid_within}
-use Rattle.report.proofs.ledger.Ledger.lay_deal_report.Goals as goal
+use Rattle.report.proofs.ledger.Opened.lay_deal_report.Goals as goal
 
 pub lay_report-requires : goal.lay_report-requires
 lay_report-requires c =
