@@ -17,3 +17,4 @@ pub mod Interest
 pub mod OpenText
 pub mod ReportLaws
 pub mod Reporting
+pub mod Pages

@@ -10,7 +10,7 @@ ghost use Rattle.report.specs.Opened.{lines_of, opened};
 ghost use Rattle.report.specs.Printed.{ft_line};
 
 use crate::closings::Closings;
-use crate::deal::lay_report;
+use crate::deal_text::DealText;
 use crate::drafts::fault_draft;
 use crate::ledger::{Ledger, Opened};
 use crate::stopped::Stopped;
@@ -121,13 +121,14 @@ impl Opened<'_> {
     {
         let at = self.place_of(deal);
         match &self.lines[at] {
-            Line::Deal(terms) => lay_report(
-                terms,
-                &self.closings.set(),
-                at as u32 + 1,
-                &self.lines[at + 1..],
-                out,
-            ),
+            Line::Deal(terms) => {
+                let deal = DealText {
+                    terms,
+                    number: at as u32 + 1,
+                    behind: &self.lines[at + 1..],
+                };
+                deal.report(&self.closings.set(), out)
+            }
             _ => unreachable(),
         }
     }

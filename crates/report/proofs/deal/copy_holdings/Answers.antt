@@ -1,4 +1,4 @@
-use Rattle.std.proofs.Common.{◌≡◌, length, get_or, take, sym, ap, ◌∙◌, arith, length-set}
+use Rattle.std.proofs.Common.{◌≡◌, length, get_or, take, sym, ap, ◌∙◌, arith, length-set, length-take}
 use Rattle.text.specs.declared.line.Line.TheVariants.{Posting}
 use Rattle.report.specs.Parts.{part, holding_in}
 use Rattle.report.proofs.Holders.{holding_more, holding_room, holdings_end, no_holding_at, no_holding_past}
@@ -10,18 +10,18 @@ returns-in_default c =
     let lines = c.args.lines.now in
     let i = c.loop-i.i in
     let none = no_holding_at lines i (omega arith) (no_holding (get_or lines i Posting) c.in_default.not-Holding) in
-    let end = holdings_end lines c.loop-i.holdings i c.loop-i.invariant.0 none c.loop-i.invariant.1 in
-    record { count = end.0; copied = end.1; within = omega arith }
+    let end = holdings_end lines c.loop-i.table i c.loop-i.invariant.0 none c.loop-i.invariant.1 in
+    record { copied = end.1; within = omega (arith, ap length end.1, end.0) }
 
-pub bounds-holdings-i : goal.bounds-holdings-i
-bounds-holdings-i c =
-    holding_room c.args.lines.now c.loop-i.holdings c.loop-i.i c.in-Holding.amount.value (omega arith)
+pub bounds-table-i : goal.bounds-table-i
+bounds-table-i c =
+    holding_room c.args.lines.now c.loop-i.table c.loop-i.i c.in-Holding.amount.value (omega arith)
     c.loop-i.invariant.0 (omega arith) (ap (λ l. holding_in (part l)) c.in-Holding.is) c.loop-i.invariant.1
 
 pub loop-i-preserved : goal.loop-i-preserved
 loop-i-preserved c =
     let lines = c.args.lines.now in
-    let table = c.loop-i.holdings in
+    let table = c.loop-i.table in
     let i = c.loop-i.i in
     let amount = c.in-Holding.amount.value in
     let is = ap (λ l. holding_in (part l)) c.in-Holding.is in
@@ -35,9 +35,8 @@ returns c =
     let lines = c.args.lines.now in
     let i = c.loop-i.i in
     let all : i ≡ length lines = omega arith in
-    let end = holdings_end lines c.loop-i.holdings i c.loop-i.invariant.0 (no_holding_past lines i (omega arith)) c.loop-i.invariant.1 in
+    let end = holdings_end lines c.loop-i.table i c.loop-i.invariant.0 (no_holding_past lines i (omega arith)) c.loop-i.invariant.1 in
     record {
-      count = sym all ∙ end.0;
-      copied = ap (λ n. take n c.loop-i.holdings) (sym all) ∙ end.1;
-      within = omega arith;
+      copied = ap (λ n. take n c.loop-i.table) (sym all) ∙ end.1;
+      within = omega (arith, length-take (length lines) c.loop-i.table);
     }

@@ -5,8 +5,8 @@ use Rattle.report.specs.Parts.{holding_in, leading}
 use Rattle.report.proofs.Reporting.{deal_there, deal_stands, deal_reported, laid_within}
 use Rattle.report.proofs.ledger.Opened.lay_deal_report.Goals as goal
 
-pub lay_report-requires : goal.lay_report-requires
-lay_report-requires c =
+pub invariant_of-deal : goal.invariant_of-deal
+invariant_of-deal c =
     let self = c.args.self.now in
     let lines = self.lines.now in
     let at = c.place_of-at.result in
@@ -38,9 +38,9 @@ returns c =
     record {
       reported =
           deal_reported lines k at c.in-Deal.terms (take set.first.count set.first.offsets) set.second.first.days.now
-          set.second.second.mask _ c.args.out.now c.lay_report.result c.lay_report.new.out
+          set.second.second.mask _ c.args.out.now c.report.result c.report.new.out
           (ap (λ e. take e.count e.offsets) c.set.ensures.easter ∙ self.offsets) (c.set.ensures.days ∙ self.days)
           (ap (λ p. p.mask) c.set.ensures.pattern ∙ self.pattern) (take_rest lines (at + 1))
-          (deal_there lines k at c.in-Deal.terms less c.place_of-at.ensures.place c.in-Deal.is) c.lay_report.ensures;
-      within = laid_within _ c.args.out.now c.lay_report.result c.lay_report.new.out c.lay_report.ensures;
+          (deal_there lines k at c.in-Deal.terms less c.place_of-at.ensures.place c.in-Deal.is) c.report.ensures;
+      within = laid_within _ c.args.out.now c.report.result c.report.new.out c.report.ensures;
     }

@@ -1,4 +1,4 @@
-use Rattle.std.proofs.Common.{◌-◌, take, sym, refl, ap, ◌∙◌}
+use Rattle.std.proofs.Common.{ℕ, take, replicate, sym, refl, ap, ◌∙◌}
 use Rattle.std.proofs.lemmas.Result.{err_from_is_err_and}
 use Rattle.counts.specs.Counting.{asked}
 use Rattle.schedules.specs.Schedule.{scheduled}
@@ -7,20 +7,20 @@ use Rattle.days.specs.Refusals.{told}
 use Rattle.report.specs.Deals.{scheduled_deal}
 use Rattle.report.specs.Reports.{front_view}
 use Rattle.report.proofs.Fronts.{schedule_here, refused_here, dates_in_range, front_stops, front_opens, front_refused, whatever}
-use Rattle.report.proofs.deal.lay_front.Goals as goal
+use Rattle.report.proofs.deal_text.DealText.lay_front.Goals as goal
 
 pub lay_dates-requires : goal.lay_dates-requires
 lay_dates-requires g c =
     dates_in_range c.schedule.new.table c.in-Ok.count c.in-Ok.ensures.law.accepted.in_range
 
-pub returns-in_err-at-in-Ok : goal.returns-in_err-at-in-Ok
-returns-in_err-at-in-Ok g c =
+pub returns-in_err-lay_dates-in-Ok : goal.returns-in_err-lay_dates-in-Ok
+returns-in_err-lay_dates-in-Ok g c =
     let closed = g.S.ClosedDays.closed c.args.set.now in
-    let terms = c.args.terms.now in
+    let terms = c.args.self.now.terms.now in
     let after = c.schedule.new.table in
     let is =
-    schedule_here closed c.deal_of.result (scheduled_deal terms) c.args.table.now after c.in-Ok.count
-    c.deal_of.ensures c.requires c.in-Ok.ensures.rule
+    schedule_here closed c.deal_of.result (scheduled_deal terms) (replicate {A = ℕ} 481 0) after c.in-Ok.count
+    c.deal_of.ensures refl c.in-Ok.ensures.rule
     in
     let p = err_from_is_err_and c.from_residual.result c.from_residual.ensures.1 in
     rw (p.1, p.2)
@@ -28,29 +28,29 @@ returns-in_err-at-in-Ok g c =
       basis = refl;
       laid =
           front_stops (asked (g.D.DayCount.counted c.args.register.now.basis)) g.D.DayCount.per
-          (view_of c.args.register.now) terms.rate.value c.args.holdings.now c.args.number
-          (scheduled closed (scheduled_deal terms) 481) (take (c.in-Ok.count - 0) after) c.args.out.now c.lay_dates.new.out
-          _ is c.in_err-at-in-Ok.ensures;
+          (view_of c.args.register.now) terms.rate.value c.args.holdings.now c.args.self.now.number
+          (scheduled closed (scheduled_deal terms) 481) c.args.page.now c.lay_dates.new.self (take c.in-Ok.count after)
+          _ is c.in_err-lay_dates-in-Ok.ensures;
       left = tt;
     })
 
-pub returns-in_ok-at-in-Ok : goal.returns-in_ok-at-in-Ok
-returns-in_ok-at-in-Ok g c =
+pub returns-in_ok-lay_dates-in-Ok : goal.returns-in_ok-lay_dates-in-Ok
+returns-in_ok-lay_dates-in-Ok g c =
     let closed = g.S.ClosedDays.closed c.args.set.now in
-    let terms = c.args.terms.now in
+    let terms = c.args.self.now.terms.now in
     let after = c.schedule.new.table in
     let count = asked (g.D.DayCount.counted c.args.register.now.basis) in
     let is =
-    schedule_here closed c.deal_of.result (scheduled_deal terms) c.args.table.now after c.in-Ok.count
-    c.deal_of.ensures c.requires c.in-Ok.ensures.rule
+    schedule_here closed c.deal_of.result (scheduled_deal terms) (replicate {A = ℕ} 481 0) after c.in-Ok.count
+    c.deal_of.ensures refl c.in-Ok.ensures.rule
     in
     record {
       basis = c.lay_opening.ensures.basis;
       laid =
           front_opens count g.D.DayCount.per (view_of c.args.register.now) terms.rate.value c.args.holdings.now
-          c.args.number (scheduled closed (scheduled_deal terms) 481) (take (c.in-Ok.count - 0) after) c.args.out.now
-          c.lay_dates.new.out c.lay_opening.new.out c.in_ok-at-in-Ok.at c.lay_opening.result is
-          c.in_ok-at-in-Ok.ensures c.lay_opening.ensures.laid;
+          c.args.self.now.number (scheduled closed (scheduled_deal terms) 481) c.args.page.now c.lay_opening.new.page (take c.in-Ok.count after)
+          c.lay_dates.new.self c.lay_opening.result is
+          c.in_ok-lay_dates-in-Ok.ensures c.lay_opening.ensures.laid;
       left =
           whatever c.lay_opening.result
           (c.lay_opening.ensures.left
@@ -60,19 +60,19 @@ returns-in_ok-at-in-Ok g c =
 pub returns-in-Err : goal.returns-in-Err
 returns-in-Err g c =
     let closed = g.S.ClosedDays.closed c.args.set.now in
-    let terms = c.args.terms.now in
+    let terms = c.args.self.now.terms.now in
     let count = asked (g.D.DayCount.counted c.args.register.now.basis) in
     let v = view_of c.args.register.now in
     let is =
-    refused_here closed c.deal_of.result (scheduled_deal terms) c.args.table.now c.schedule.new.table
-    c.in-Err.refusal c.deal_of.ensures c.requires c.in-Err.ensures.rule
+    refused_here closed c.deal_of.result (scheduled_deal terms) (replicate {A = ℕ} 481 0) c.schedule.new.table
+    c.in-Err.refusal c.deal_of.ensures refl c.in-Err.ensures.rule
     in
     record {
       basis = refl;
       laid =
-          front_refused count g.D.DayCount.per v terms.rate.value c.args.holdings.now c.args.number
-          (scheduled closed (scheduled_deal terms) 481) (told c.in-Err.refusal) c.refused_draft.result
-          c.args.out.now c.lay.new.out c.lay.result is c.refused_draft.ensures c.lay.ensures.laid;
+          front_refused count g.D.DayCount.per v terms.rate.value c.args.holdings.now c.args.self.now.number
+          (scheduled closed (scheduled_deal terms) 481) c.args.page.now c.lay.new.self (told c.in-Err.refusal) c.refused_draft.result
+          c.lay.result is c.refused_draft.ensures c.lay.ensures;
       left =
           whatever c.lay.result
           (sym (ap (front_view count g.D.DayCount.per v terms.rate.value c.args.holdings.now) is));
