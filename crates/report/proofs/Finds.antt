@@ -1,6 +1,6 @@
 -- What is found in lines, copied into a table one by one.
 -- Assumes nothing.
-use Rattle.std.proofs.Common.{◌≡◌, ℕ, ◌+◌, ◌<◌, ◌≤◌, List, [], ◌∷◌, ◌++◌, length, get_or, take, drop, set, Some, None, Option, sym, refl, ap, ◌∙◌, append_assoc, arith}
+use Rattle.std.proofs.Common.{◌≡◌, ℕ, ◌+◌, ◌<◌, ◌≤◌, List, [], ◌∷◌, ◌++◌, length, get_or, take, drop, set, Some, None, Option, sym, refl, ap, ◌∙◌, append_assoc, arith, length-set}
 use Rattle.std.proofs.lemmas.List.{append-nil, length-append, length-take-le, at_drop_more, at_drop_all, take_more_set}
 use Rattle.text.specs.declared.line.Line.{Line}
 use Rattle.text.specs.declared.line.Line.TheVariants.{Posting}
@@ -30,17 +30,16 @@ module _ {X : Type 0} (find : Part → Option X) (lines : List Line) where
       omega (arith, all, here, length-take-le n table copied.within)
 
   pub copied_more :
-      (table : List X) (n i : ℕ) (x : X) (after : List X) → Copied table n i → i < length lines → n < length table →
-      find (part (get_or lines i Posting)) ≡ Some x → after ≡ set table n x → length after ≡ length table → Copied after (n + 1) (i + 1)
-  copied_more table n i x after copied inside room is set_there long =
+      (table : List X) (n i : ℕ) (x : X) → Copied table n i → i < length lines → n < length table →
+      find (part (get_or lines i Posting)) ≡ Some x → Copied (set table n x) (n + 1) (i + 1)
+  copied_more table n i x copied inside room is =
       let later = gathered find (drop (i + 1) lines) in
       record {
-        within = omega arith;
+        within = omega (arith, length-set table n x);
         so_far =
-            ap (λ t. take (n + 1) t ++ later) set_there
-            ∙ (ap (λ t. t ++ later) (take_more_set table n x room)
+            ap (λ t. t ++ later) (take_more_set table n x room)
             ∙ (append_assoc (take n table) (x ∷ []) later
-            ∙ (ap (λ t. take n table ++ t) (sym (found_here i (Some x) inside is)) ∙ copied.so_far)));
+            ∙ (ap (λ t. take n table ++ t) (sym (found_here i (Some x) inside is)) ∙ copied.so_far));
       }
 
   pub copied_past :

@@ -1,7 +1,9 @@
 // The closed days of a text, gathered from its lines.
-ghost use Rattle.std.specs.Prelude.{◌≡◌, ◌<◌, ◌≤◌, true, length, take, count_ones};
+ghost use Rattle.std.specs.Prelude.{◌≡◌, ◌<◌, ◌≤◌, true, length, take, Option, count_ones};
+ghost use Rattle.std.specs.Fn.{FnReturnsAt};
 ghost use Rattle.calendar.specs.Kinds.{all_within_sixty};
-ghost use Rattle.report.specs.Parts.{mask_of, days_of, offsets_of};
+ghost use Rattle.text.specs.declared.line.Line.{Line};
+ghost use Rattle.report.specs.Parts.{Part, part, gathered, mask_of, days_of, offsets_of};
 
 use crate::closings::{Closings, MOST_DATES};
 use calendar::{EasterRule, WeekdayPattern};
@@ -21,32 +23,19 @@ fn mask_of(lines: &[Line]) -> u8
     0
 }
 
-// Copies the closed dates; answers how many there are.
-fn copy_days(lines: &[Line], days: &mut [u32]) -> usize
-    requires { length (days_of lines.now) ≤ length days.old }
-    ensures within { result ≤ length days.new }
-    ensures copied { take result days.new ≡ days_of lines.now }
+// Copies what is found in the lines into a table; answers how much there is.
+fn gather<T: Copy, F: Fn(&Line) -> Option<T>>(lines: &[Line], table: &mut [T], find: F) -> usize
+    ghost found: { Part → Option T }
+    requires callable { F.IsAlwaysCallable find }
+    requires finds { (line : Line) (o : Option T) → FnReturnsAt F.Fn find line o → o ≡ found (part line) }
+    requires room { length (gathered found lines.now) ≤ length table.old }
+    ensures within { result ≤ length table.new }
+    ensures copied { take result table.new ≡ gathered found lines.now }
 {
     let mut count = 0;
     for line in lines {
-        if let Line::ClosedDay(day) = line {
-            days[count] = day.value;
-            count += 1;
-        }
-    }
-    count
-}
-
-// Copies the offsets from Easter; answers how many there are.
-fn copy_offsets(lines: &[Line], offsets: &mut [i32]) -> usize
-    requires { length (offsets_of lines.now) ≤ length offsets.old }
-    ensures within { result ≤ length offsets.new }
-    ensures copied { take result offsets.new ≡ offsets_of lines.now }
-{
-    let mut count = 0;
-    for line in lines {
-        if let Line::Offset(offset) = line {
-            offsets[count] = offset.value;
+        if let Some(item) = find(line) {
+            table[count] = item;
             count += 1;
         }
     }
@@ -59,7 +48,10 @@ fn easter_rule(lines: &[Line]) -> EasterRule
     ensures { take result.count result.offsets ≡ offsets_of lines.now }
 {
     let mut offsets = [0; MOST_OFFSETS];
-    let count = copy_offsets(lines, &mut offsets);
+    let count = gather(lines, &mut offsets, |line| match line {
+        Line::Offset(offset) => Some(offset.value),
+        _ => None,
+    });
     match EasterRule::new(&offsets[0..count]) {
         Ok(rule) => rule,
         Err(_) => unreachable(),
@@ -90,7 +82,10 @@ impl Closings {
         ensures offsets { take result.easter.count result.easter.offsets ≡ offsets_of lines.now }
     {
         let mut days = [0; MOST_DATES];
-        let count = copy_days(lines, &mut days);
+        let count = gather(lines, &mut days, |line| match line {
+            Line::ClosedDay(day) => Some(day.value),
+            _ => None,
+        });
         Closings {
             easter: easter_rule(lines),
             pattern: weekday_pattern(lines),
