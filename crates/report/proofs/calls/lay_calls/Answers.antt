@@ -31,8 +31,8 @@ returns-in_default g c =
       left = ends.1 ∙ (sym ends.0.end ∙ c.loop-i.invariant.2);
     }
 
-pub returns-in_err-lay : goal.returns-in_err-lay
-returns-in_err-lay g c =
+pub returns-in_err-lay-clause-laid : goal.returns-in_err-lay-clause-laid
+returns-in_err-lay-clause-laid g c =
     let lines = c.args.lines.now in
     let i = c.loop-i.i in
     let count = asked (g.D.DayCount.counted c.args.register.now.basis) in
@@ -46,15 +46,11 @@ returns-in_err-lay g c =
     let step = call_step count g.D.DayCount.per v v' lines c.args.number i answer (omega arith) called in
     let p = err_from_is_err_and c.from_residual.result c.from_residual.ensures.1 in
     rw (p.1, p.2)
-    (record {
-      laid =
-          onward_stops _ (answer_line (seen answer) (c.args.number + i))
-          (call_lines count g.D.DayCount.per v' (numbered (c.args.number + (i + 1)) (leading call_in (drop (i + 1) lines))))
-          c.loop-i.page
-          (call_lines count g.D.DayCount.per (view_of c.args.register.now) (numbered c.args.number (leading call_in lines)))
-          c.args.page.now _ _ _ step.0 c.answer_draft.ensures c.loop-i.invariant.1 c.in_err-lay.ensures;
-      left = tt;
-    })
+    (onward_stops _ (answer_line (seen answer) (c.args.number + i))
+    (call_lines count g.D.DayCount.per v' (numbered (c.args.number + (i + 1)) (leading call_in (drop (i + 1) lines))))
+    c.loop-i.page
+    (call_lines count g.D.DayCount.per (view_of c.args.register.now) (numbered c.args.number (leading call_in lines)))
+    c.args.page.now _ _ _ step.0 c.answer_draft.ensures c.loop-i.invariant.1 c.in_err-lay.ensures)
 
 pub loop-i-preserved : goal.loop-i-preserved
 loop-i-preserved g c =

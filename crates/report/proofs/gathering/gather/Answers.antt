@@ -1,6 +1,6 @@
 use Rattle.std.proofs.Common.{get_or, sym, ◌∙◌, refl, arith}
 use Rattle.text.specs.declared.line.Line.TheVariants.{Posting}
-use Rattle.report.proofs.Finds.{copied_room, copied_more, copied_past, copied_all}
+use Rattle.report.proofs.Finds.{copied_room, copied_more, copied_past}
 use Rattle.report.proofs.gathering.gather.Goals as goal
 use Rattle.report.proofs.gathering.gather.Goals.{in-Some, in_default}
 
@@ -10,9 +10,6 @@ bounds-table-count g c =
     let is = c.requires.1.1.1.0 l c.find.result (record { shown = _; shows = refl; says = record { met = c.find.ensures } }) in
     copied_room g.found c.args.lines.now c.loop-line.table c.loop-line.count c.loop-line.line-index
     c.in-Some.item c.loop-line.invariant.1 (omega arith) (omega (arith, c.requires.1.1.1.1, c.loop-line.auto.table)) (sym is ∙ c.in-Some.is)
-
-pub overflow_add-count : goal.overflow_add-count
-overflow_add-count g c = omega arith
 
 pub loop-line-preserved : goal.loop-line-preserved
 loop-line-preserved g c =
@@ -29,11 +26,3 @@ loop-line-preserved g c =
       | in_default w ↦ rw (w.count-is, w.table-is)
           (omega (arith, c.loop-line.invariant.0), copied_past g.found lines c.loop-line.table c.loop-line.count i c.loop-line.invariant.1 (omega arith) (sym is ∙ w.in_default.is))
     ]
-
-pub returns : goal.returns
-returns g c =
-    let copied = c.loop-line.invariant.1 in
-    record {
-      within = copied.within;
-      copied = copied_all g.found c.args.lines.now c.loop-line.table c.loop-line.count c.loop-line.line-index copied (omega arith);
-    }

@@ -6,15 +6,11 @@ use Rattle.register.specs.Views.{view_of}
 use Rattle.days.specs.Refusals.{told}
 use Rattle.report.specs.Deals.{scheduled_deal}
 use Rattle.report.specs.Reports.{front_view}
-use Rattle.report.proofs.Fronts.{schedule_here, refused_here, dates_in_range, front_stops, front_opens, front_refused, whatever}
+use Rattle.report.proofs.Fronts.{schedule_here, refused_here, front_stops, front_opens, front_refused, whatever}
 use Rattle.report.proofs.deal_text.DealText.lay_front.Goals as goal
 
-pub lay_dates-requires : goal.lay_dates-requires
-lay_dates-requires g c =
-    dates_in_range c.schedule.new.table c.in-Ok.count c.in-Ok.ensures.law.accepted.in_range
-
-pub returns-in_err-lay_dates-in-Ok : goal.returns-in_err-lay_dates-in-Ok
-returns-in_err-lay_dates-in-Ok g c =
+pub returns-in_err-lay_dates-in-Ok-clause-laid : goal.returns-in_err-lay_dates-in-Ok-clause-laid
+returns-in_err-lay_dates-in-Ok-clause-laid g c =
     let closed = g.S.ClosedDays.closed c.args.set.now in
     let terms = c.args.self.now.terms.now in
     let after = c.schedule.new.table in
@@ -24,15 +20,10 @@ returns-in_err-lay_dates-in-Ok g c =
     in
     let p = err_from_is_err_and c.from_residual.result c.from_residual.ensures.1 in
     rw (p.1, p.2)
-    (record {
-      basis = refl;
-      laid =
-          front_stops (asked (g.D.DayCount.counted c.args.register.now.basis)) g.D.DayCount.per
-          (view_of c.args.register.now) terms.rate.value c.args.holdings.now c.args.self.now.number
-          (scheduled closed (scheduled_deal terms) 481) c.args.page.now c.lay_dates.new.self (take c.in-Ok.count after)
-          _ is c.in_err-lay_dates-in-Ok.ensures;
-      left = tt;
-    })
+    (front_stops (asked (g.D.DayCount.counted c.args.register.now.basis)) g.D.DayCount.per
+    (view_of c.args.register.now) terms.rate.value c.args.holdings.now c.args.self.now.number
+    (scheduled closed (scheduled_deal terms) 481) c.args.page.now c.lay_dates.new.self (take c.in-Ok.count after)
+    _ is c.in_err-lay_dates-in-Ok.ensures)
 
 pub returns-in_ok-lay_dates-in-Ok : goal.returns-in_ok-lay_dates-in-Ok
 returns-in_ok-lay_dates-in-Ok g c =
@@ -57,8 +48,8 @@ returns-in_ok-lay_dates-in-Ok g c =
           ∙ sym (ap (front_view count g.D.DayCount.per (view_of c.args.register.now) terms.rate.value c.args.holdings.now) is));
     }
 
-pub returns-in-Err : goal.returns-in-Err
-returns-in-Err g c =
+pub returns-in-Err-clause-laid : goal.returns-in-Err-clause-laid
+returns-in-Err-clause-laid g c =
     let closed = g.S.ClosedDays.closed c.args.set.now in
     let terms = c.args.self.now.terms.now in
     let count = asked (g.D.DayCount.counted c.args.register.now.basis) in
@@ -67,13 +58,6 @@ returns-in-Err g c =
     refused_here closed c.deal_of.result (scheduled_deal terms) (replicate {A = ℕ} 481 0) c.schedule.new.table
     c.in-Err.refusal c.deal_of.ensures refl c.in-Err.ensures.rule
     in
-    record {
-      basis = refl;
-      laid =
-          front_refused count g.D.DayCount.per v terms.rate.value c.args.holdings.now c.args.self.now.number
-          (scheduled closed (scheduled_deal terms) 481) c.args.page.now c.lay.new.self (told c.in-Err.refusal) c.refused_draft.result
-          c.lay.result is c.refused_draft.ensures c.lay.ensures;
-      left =
-          whatever c.lay.result
-          (sym (ap (front_view count g.D.DayCount.per v terms.rate.value c.args.holdings.now) is));
-    }
+    front_refused count g.D.DayCount.per v terms.rate.value c.args.holdings.now c.args.self.now.number
+    (scheduled closed (scheduled_deal terms) 481) c.args.page.now c.lay.new.self (told c.in-Err.refusal) c.refused_draft.result
+    c.lay.result is c.refused_draft.ensures c.lay.ensures

@@ -1,25 +1,8 @@
-use Rattle.std.proofs.Common.{ℕ, ◌+◌, ◌<◌, ◌≤◌, length, take, drop, sym, ap, ◌∙◌, subst, arith, length-drop}
+use Rattle.std.proofs.Common.{◌+◌, ◌<◌, length, take, ap, ◌∙◌, arith}
 use Rattle.std.proofs.lemmas.List.{take_rest}
 use Rattle.report.specs.Deals.{starts_of}
-use Rattle.report.specs.Parts.{holding_in, leading}
 use Rattle.report.proofs.Reporting.{deal_there, deal_stands, deal_reported, laid_within}
 use Rattle.report.proofs.ledger.Opened.lay_deal_report.Goals as goal
-
-pub invariant_of-deal : goal.invariant_of-deal
-invariant_of-deal c =
-    let self = c.args.self.now in
-    let lines = self.lines.now in
-    let at = c.place_of-at.result in
-    let k = c.args.deal in
-    let less : k < length (starts_of lines) = omega (arith, ap length self.places) in
-    let few = self.few_holders k less in
-    let behind = take_rest lines (at + 1) in
-    let place = c.place_of-at.ensures.place in
-    record {
-      few =
-          rw behind (subst (λ (i : ℕ). length (leading holding_in (drop (i + 1) lines)) ≤ 16) (sym place) few);
-      within = rw behind (omega (arith, length-drop (at + 1) lines, c.place_of-at.ensures.few, c.place_of-at.ensures.inside));
-    }
 
 pub unreachable-requires : goal.unreachable-requires
 unreachable-requires c =

@@ -1,7 +1,7 @@
-use Rattle.std.proofs.Common.{length, arith}
+use Rattle.std.proofs.Common.{arith}
 use Rattle.std.proofs.lemmas.List.{length-take-le}
 use Rattle.report.proofs.GoodCalendar.{good_calendar}
-use Rattle.report.proofs.OpenText.{read_well, opened_well, lines_good, few_holders}
+use Rattle.report.proofs.OpenText.{read_well, lines_good, few_holders}
 use Rattle.report.proofs.ledger.Opened.read.Goals as goal
 
 pub of-requires : goal.of-requires
@@ -36,16 +36,4 @@ invariant_of-result c =
       offsets = c.of.ensures.offsets;
       few_lines = omega (arith, good.1, length-take-le n after well.all.within);
       few_holders = few_holders _ good.0;
-    }
-
-pub returns : goal.returns
-returns c =
-    let text = c.args.text.now in
-    let table = c.args.lines.now in
-    let n = c.in_ok-count.count in
-    let after = c.read.new.lines in
-    let well = read_well text table n after c.in_ok-count.ensures.value in
-    record {
-      value = opened_well text table n after (length c.args.deals.now) well c.if-deals-count.false;
-      law = c.in_ok-count.ensures.law;
     }
