@@ -1,7 +1,7 @@
 -- The schedule that a table begins with, or its refusal.
 -- Assumes nothing.
-use Rattle.std.proofs.Common.{◌≡◌, ℕ, ◌<◌, ◌≤◌, Bool, List, [], ◌∷◌, length, get_or, take, drop, IfOk, Ok, Err, Result, sym, ap, ◌∙◌, subst, arith}
-use Rattle.std.proofs.lemmas.List.{take_at, length-take, get_or-take}
+use Rattle.std.proofs.Common.{◌≡◌, ℕ, Bool, List, [], ◌∷◌, length, take, drop, IfOk, Ok, Err, Result, sym, ap, ◌∙◌, subst}
+use Rattle.std.proofs.lemmas.List.{take_at}
 use Rattle.days.specs.Refusals.{Told, told}
 use Rattle.days.specs.declared.refusal.Refusal.{Refusal}
 use Rattle.schedules.specs.Schedule.{Answers, ByRule, scheduled}
@@ -41,13 +41,6 @@ pub refused_here :
 refused_here closed deal deal' table after e same room rule =
     sym (ap (λ d. scheduled closed d 481) same) ∙ (sym (ap (λ n. scheduled closed deal n) room)
     ∙ scheduled_err (scheduled closed deal (length table)) table after e rule)
-
--- every date of an accepted schedule is a day of the range
-pub dates_in_range :
-    (after : List ℕ) (count : ℕ) → ((k : ℕ) → k < count → get_or after k 0 ≤ 109572) → (k : ℕ) →
-    k < length (take count after) → get_or (take count after) k 0 ≤ 109572
-dates_in_range after count inside k less =
-    let few : k < count = omega (arith, length-take count after) in rw (get_or-take count after k 0 few) (inside k few)
 
 module _
     (count : ℕ → ℕ → ℕ) (per : ℕ) (v : View) (rate : ℕ) (holdings : List ℕ) (line : ℕ) (s : Result (List ℕ) Told)

@@ -1,7 +1,6 @@
 pub mod Drafting
 pub mod Onward
 pub mod Calling
-pub mod Holders
 pub mod Fronts
 pub mod Whole
 pub mod GoodCount

@@ -1,6 +1,6 @@
 -- Lines laid one after the other.
 -- Assumes nothing.
-use Rattle.std.proofs.Common.{◌≡◌, ℕ, suc, ◌+◌, ◌-◌, ◌<◌, ◌≤◌, min, List, [], ◌∷◌, ◌++◌, length, take, drop, Ok, Err, Result, sym, refl, ap, ◌∙◌, subst, ⊎_elim, append-nil, arith, length-append, length-drop, length-take}
+use Rattle.std.proofs.Common.{◌≡◌, ℕ, suc, ◌+◌, ◌-◌, ◌<◌, ◌≤◌, min, List, [], ◌∷◌, ◌++◌, length, take, drop, Ok, Err, Result, sym, refl, ap, ◌∙◌, ⊎_elim, append-nil, arith, length-append, length-drop, length-take}
 use lib.Seq.{paste}
 use Rattle.std.proofs.lemmas.List.{take-append-drop, drop-drop, nil_from_length}
 use Rattle.std.proofs.lemmas.List.Edits.{paste-paste, paste_all}
@@ -82,12 +82,6 @@ pub laid_none : (buffer : List ℕ) (at : ℕ) → Laid [] buffer at (Ok at) buf
 laid_none buffer at =
     let none = fitting_nil (length buffer - at) in
     (sym (with_none buffer at) ∙ ap (λ l. with_bytes buffer at (joined l)) (sym none), (none, omega arith))
-
--- lines under another name
-pub laid_same :
-    (xs ys : List (List ℕ)) (buffer : List ℕ) (at : ℕ) (r : Result ℕ Full) (after : List ℕ) → xs ≡ ys →
-    Laid xs buffer at r after → Laid ys buffer at r after
-laid_same xs ys buffer at r after same laid = subst (λ l. Laid l buffer at r after) same laid
 
 -- a buffer keeps its length
 pub laid_length :
