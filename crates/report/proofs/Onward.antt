@@ -1,6 +1,7 @@
 -- Lines laid one after another: what is still to be laid, on the page as it stands, gives the whole.
 -- Assumes nothing.
-use Rattle.std.proofs.Common.{◌≡◌, ℕ, List, [], ◌∷◌, Ok, Err, Result, subst}
+use Rattle.std.proofs.Common.{◌≡◌, ℕ, ◌+◌, ◌<◌, ◌≤◌, List, [], ◌∷◌, length, get_or, drop, Ok, Err, Result, subst, ◌∙◌}
+use Rattle.std.proofs.lemmas.List.{at_drop_more, at_drop_all}
 use Rattle.writing.specs.declared.laying.Full.{Full}
 use Rattle.report.specs.Pages.{LaidOn}
 use Rattle.report.specs.declared.page.Page.{Page}
@@ -38,3 +39,32 @@ pub onward_done :
     Onward lines page all first → LaidOn all first (Ok tt) page
 onward_done lines page all first none onward =
     subst (λ (ls : List (List ℕ)). Onward ls page all first) none onward (Ok tt) page (on_none page)
+
+-- a line for each item of a list, by its index
+module _
+    {X : Type 0} (lines : ℕ → List X → List (List ℕ)) (line : ℕ → X → List ℕ) (other : X)
+    (none : (i : ℕ) → lines i [] ≡ []) (some : (i : ℕ) (x : X) (xs : List X) → lines i (x ∷ xs) ≡ line i x ∷ lines (i + 1) xs)
+    (xs : List X) (i : ℕ) (first page : Page) where
+  here : i < length xs → lines i (drop i xs) ≡ line i (get_or xs i other) ∷ lines (i + 1) (drop (i + 1) xs)
+  here inside = at_drop_more (lines i) xs i other inside ∙ some i (get_or xs i other) (drop (i + 1) xs)
+
+  pub each_more :
+      (text : List ℕ) (after : Page) → i < length xs → text ≡ line i (get_or xs i other) →
+      Onward (lines i (drop i xs)) page (lines 0 xs) first → LaidOn (text ∷ []) page (Ok tt) after →
+      Onward (lines (i + 1) (drop (i + 1) xs)) after (lines 0 xs) first
+  each_more text after inside is onward laid =
+      onward_more (lines i (drop i xs)) (line i (get_or xs i other)) (lines (i + 1) (drop (i + 1) xs)) page (lines 0 xs) first
+      text after (here inside) is onward laid
+
+  pub each_stops :
+      (text : List ℕ) (full : Full) (after : Page) → i < length xs → text ≡ line i (get_or xs i other) →
+      Onward (lines i (drop i xs)) page (lines 0 xs) first → LaidOn (text ∷ []) page (Err full) after →
+      LaidOn (lines 0 xs) first (Err full) after
+  each_stops text full after inside is onward laid =
+      onward_stops (lines i (drop i xs)) (line i (get_or xs i other)) (lines (i + 1) (drop (i + 1) xs)) page (lines 0 xs) first
+      text full after (here inside) is onward laid
+
+  pub each_done :
+      length xs ≤ i → Onward (lines i (drop i xs)) page (lines 0 xs) first → LaidOn (lines 0 xs) first (Ok tt) page
+  each_done past onward =
+      onward_done (lines i (drop i xs)) page (lines 0 xs) first (at_drop_all (lines i) xs i past ∙ none i) onward

@@ -19,7 +19,8 @@ use days::Refusal;
 use text::{Fault, Line, Unread};
 use writing::{Full, lay};
 
-// Writes the places of the deals among the lines into a table, and answers them.
+// Writes the places of the deals among the lines into a table, and answers them. The caller lends the table, so its free
+// place is counted here. `gather` sees a line without its place, and does not serve.
 fn index_deals<'a>(lines: &[Line], table: &'a mut [usize]) -> &'a [usize]
     requires { length lines.now ≤ length table.old }
     ensures { result.now ≡ starts_of lines.now }

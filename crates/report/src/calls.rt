@@ -16,7 +16,8 @@ use register::Register;
 use text::Line;
 use writing::Full;
 
-// Makes the call that a line asks for; absent where it asks for none.
+// Makes the call that a line asks for; absent where it asks for none. A `match` over the kinds of lines: each calls
+// another method of the register, with arguments of its own.
 fn call_on<D: DayCount>(register: &mut Register<D>, line: &Line) -> Option<Result<u64, Refusal>>
     ensures basis { register.new.basis ≡ register.old.basis }
     ensures called { Called (asked (D.DayCount.counted register.old.basis)) D.DayCount.per (view_of register.old) (call_in (part line.now)) (view_of register.new) result }

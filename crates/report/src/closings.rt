@@ -6,6 +6,7 @@ use calendar::{EasterRule, WeekdayPattern};
 // As many closed dates as a text has at the most.
 pub(crate) const MOST_DATES: usize = 512;
 
+// The dates are an array with its length beside it: reports use no heap, and callers copy the ledger that holds this.
 #[derive(Clone, Copy)]
 pub(crate) struct Closings {
     pub(crate) easter: EasterRule,

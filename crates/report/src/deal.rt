@@ -22,7 +22,8 @@ use schedules::{Deal, schedule};
 use text::{Basis, Line, Terms};
 use writing::Full;
 
-// As many dates as a schedule has at the most, and as many holders as a deal.
+// As many dates as a schedule has at the most, and as many holders as a deal. The tables are arrays of this length: reports
+// use no heap.
 const MOST_DATES: usize = 481;
 
 const MOST_HOLDERS: usize = 16;
@@ -113,6 +114,7 @@ impl DealText<'_> {
         lay_played(&mut register, &self.behind[holdings.len()..], first, page)
     }
 
+    // A `match` over the four bases: each runs the report over a type of its own.
     fn lay_all<S: ClosedDays>(&self, set: &S, page: &mut Page) -> Result<(), Full>
         ensures { LaidOn (report_lines (S.ClosedDays.closed set.now) (deal_at self.now.number self.now.terms.now self.now.behind.now)) page.old result page.new }
     {

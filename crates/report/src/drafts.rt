@@ -1,4 +1,5 @@
-// The lines of a report, each as a draft.
+// The lines of a report, each as a draft. They are put together by a draft's own methods: `write!` answers a Result, whose
+// clauses say nothing of an Err, and a draft never fails.
 ghost use Rattle.std.specs.Prelude.{◌≡◌, ◌≤◌, ◌∷◌, ◌++◌, length, take};
 ghost use Rattle.days.specs.Refusals.{told};
 ghost use Rattle.report.specs.Printed.{field, letter, sc_line, ok_line, no_line, answer_line, st_line, ft_line};

@@ -23,7 +23,8 @@ fn mask_of(lines: &[Line]) -> u8
     0
 }
 
-// Copies what is found in the lines into a table; answers how much there is.
+// Copies what is found in the lines into a table; answers how much there is. Reports use no heap, so the table is the
+// caller's, and the place of the next item is counted here, since not every line has one.
 fn gather<T: Copy, F: Fn(&Line) -> Option<T>>(lines: &[Line], table: &mut [T], find: F) -> usize
     ghost found: { Part → Option T }
     requires callable { F.IsAlwaysCallable find }

@@ -1,4 +1,5 @@
-// Lists of lines, laid on a page one after another.
+// Lists of lines, laid on a page one after another. The two loops draft different lines, and one over a closure that drafts
+// would be longer than both.
 ghost use Rattle.std.specs.Prelude.{ℕ, ◌<◌, ◌≤◌, length, slice_index};
 ghost use Rattle.report.specs.Pages.{LaidOn};
 ghost use Rattle.report.specs.Printed.{sc_lines, st_lines};

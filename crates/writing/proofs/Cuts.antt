@@ -15,6 +15,11 @@ pub cut_more :
 cut_more n text xs ys after e =
     ap (λ t. take n (t ++ ys)) e ∙ cut_again n (text ++ xs) ys ∙ ap (take n) (append_assoc text xs ys)
 
+pub then :
+    (text xs ys : List ℕ) {after final : List ℕ} → after ≡ take 128 (text ++ xs) → final ≡ take 128 (after ++ ys) →
+    final ≡ take 128 (text ++ (xs ++ ys))
+then text xs ys {after} so_far put = put ∙ cut_more 128 text xs ys after so_far
+
 -- a loop that puts the bytes of a word behind a text
 pub word_more :
     (text text' after bytes : List ℕ) (i : ℕ) → i < length bytes → text ≡ take 128 (text' ++ take i bytes) →

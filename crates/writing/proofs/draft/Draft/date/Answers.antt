@@ -1,14 +1,16 @@
 use Rattle.std.proofs.Common.{◌++◌, take, ap, ◌∙◌, arith}
 use Rattle.days.proofs.Parts.{found}
+use Rattle.writing.proofs.Cuts.{then}
 use Rattle.writing.proofs.Dated.{date_found}
 use Rattle.writing.proofs.draft.Draft.date.Goals as goal
 
-pub spelled-requires : goal.spelled-requires
-spelled-requires c =
-    let is = found c.args.day _ _ _ c.in-Some.ensures.value in (omega arith, omega arith, omega arith)
+pub two_digits-requires-in-Some-3 : goal.two_digits-requires-in-Some-3
+two_digits-requires-in-Some-3 c = let is = found c.args.day _ _ _ c.in-Some.ensures.value in omega arith
 
 pub returns-in-Some-clause-inside : goal.returns-in-Some-clause-inside
 returns-in-Some-clause-inside c within =
-    c.word.ensures
-    ∙ ap (λ t. take 128 (c.args.self.now ++ t))
-    (c.spelled.ensures ∙ (date_found c.args.day _ _ _ c.in-Some.ensures.value).1)
+    let text = c.args.self.now in
+    let t2 = then text _ _ c.two_digits.ensures c.two_digits-in-Some.ensures in
+    let t4 = then text _ _ (then text _ _ t2 c.push.ensures) c.two_digits-in-Some-2.ensures in
+    let t6 = then text _ _ (then text _ _ t4 c.push-in-Some.ensures) c.two_digits-in-Some-3.ensures in
+    t6 ∙ ap (λ t. take 128 (text ++ t)) (date_found c.args.day _ _ _ c.in-Some.ensures.value).1
