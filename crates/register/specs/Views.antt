@@ -2,7 +2,8 @@
 -- Assumes nothing.
 use Rattle.std.specs.Prelude.{take}
 use Rattle.register.specs.declared.state.Register.{Register}
-use Rattle.register.specs.Rules.{View}
+use Rattle.register.specs.Calls.{State}
+use Rattle.register.specs.Rules.{View, seen_state}
 
 abbrev pub view_of : {D : Type 0} → Register D → View
 view_of r =
@@ -15,3 +16,7 @@ view_of r =
       period = r.book.period;
       tally = r.book.tally;
     }
+
+-- and what its calls are judged by
+abbrev pub judged_by : {D : Type 0} → Register D → State
+judged_by r = seen_state (view_of r)

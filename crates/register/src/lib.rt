@@ -1,7 +1,6 @@
 // The register of a bond: who holds it, and the interest of each holder.
 #![tactic(auto)]
 
-mod answer;
 mod api;
 mod apply;
 mod book;
@@ -14,7 +13,6 @@ mod rows;
 mod state;
 mod terms;
 
-pub use answer::Answer;
 pub use call::Call;
 pub use history::play;
 pub use row::Row;

@@ -36,17 +36,17 @@ fn opening_is_refused(rt: HostRuntime) {
         opening(&DATES, RATE, &HOLDINGS),
     ];
     let expected = [
-        Answer::Refused(Refusal::RegisterEmpty),
-        Answer::Refused(Refusal::BadDates),
-        Answer::Refused(Refusal::BadDates),
-        Answer::Refused(Refusal::RateTooHigh),
-        Answer::Refused(Refusal::BadHolderCount),
-        Answer::Refused(Refusal::BadNominal),
-        Answer::Refused(Refusal::BadNominal),
-        Answer::Accepted(1500),
-        Answer::Refused(Refusal::NotEmpty),
+        Err(Refusal::RegisterEmpty),
+        Err(Refusal::BadDates),
+        Err(Refusal::BadDates),
+        Err(Refusal::RateTooHigh),
+        Err(Refusal::BadHolderCount),
+        Err(Refusal::BadNominal),
+        Err(Refusal::BadNominal),
+        Ok(1500),
+        Err(Refusal::NotEmpty),
     ];
-    let mut answers = [Answer::Accepted(0); 9];
+    let mut answers = [Ok(0); 9];
     let _register = play(Actual360, &calls, &mut answers);
     for (answer, wanted) in answers.iter().zip(expected.iter()) {
         assert_eq!(rt; *answer, *wanted);
@@ -80,24 +80,24 @@ fn two_periods(rt: HostRuntime) {
         Call::Pay { holder: 2 },
     ];
     let expected = [
-        Answer::Accepted(1500),
-        Answer::Refused(Refusal::DayOutOfPeriod),
-        Answer::Refused(Refusal::DayOutOfPeriod),
-        Answer::Refused(Refusal::UnknownHolder),
-        Answer::Refused(Refusal::SameHolder),
-        Answer::Refused(Refusal::BadAmount),
-        Answer::Accepted(30),
-        Answer::Accepted(45),
-        Answer::Accepted(0),
-        Answer::Accepted(500),
-        Answer::Accepted(30),
-        Answer::Accepted(30),
-        Answer::Refused(Refusal::RegisterClosed),
-        Answer::Accepted(60),
-        Answer::Accepted(15),
-        Answer::Refused(Refusal::UnknownHolder),
+        Ok(1500),
+        Err(Refusal::DayOutOfPeriod),
+        Err(Refusal::DayOutOfPeriod),
+        Err(Refusal::UnknownHolder),
+        Err(Refusal::SameHolder),
+        Err(Refusal::BadAmount),
+        Ok(30),
+        Ok(45),
+        Ok(0),
+        Ok(500),
+        Ok(30),
+        Ok(30),
+        Err(Refusal::RegisterClosed),
+        Ok(60),
+        Ok(15),
+        Err(Refusal::UnknownHolder),
     ];
-    let mut answers = [Answer::Accepted(0); 16];
+    let mut answers = [Ok(0); 16];
     let _register = play(Actual360, &calls, &mut answers);
     for (answer, wanted) in answers.iter().zip(expected.iter()) {
         assert_eq!(rt; *answer, *wanted);

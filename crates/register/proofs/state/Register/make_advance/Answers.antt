@@ -13,7 +13,7 @@ pub accrue-requires : goal.accrue-requires
 accrue-requires g c =
     let s = c.args.self.now in
     let v = view_of s in
-    let within = advance_within (seen_state v) c.args.day (sym c.in_default.ensures) in
+    let within = advance_within (seen_state v) c.args.day c.in_ok-judge_advance.ensures in
     let dates = take s.terms.len s.terms.dates in
     let inside = leb-false _ _ within.0 in
     let next = next_date dates s.terms.rising s.book.period (omega arith) in
@@ -39,7 +39,7 @@ returns g c =
     record {
       basis = refl;
       rule = (
-        sym c.in_default.ensures,
+        c.in_ok-judge_advance.ensures,
         advanced_view count g.D.DayCount.per v c.args.day c.saturating_sub-n.result c.accrue.new.self.rows
             c.accrue.new.self.tally c.accrue.new.self.period n (search rules) c.accrue.ensures.tally
             c.accrue.ensures.period,

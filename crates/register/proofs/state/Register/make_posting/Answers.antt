@@ -10,7 +10,7 @@ use Rattle.register.proofs.state.Register.make_posting.Goals as goal
 pub begin-requires : goal.begin-requires
 begin-requires g c =
     let s = c.args.self.now in
-    let running = leb-false _ _ (posting_open (seen_state (view_of s)) (sym c.in_default.ensures)) in
+    let running = leb-false _ _ (posting_open (seen_state (view_of s)) c.in_ok-judge_posting.ensures) in
     let long = length-take-le s.terms.len s.terms.dates (omega arith) in
     record {
       periods = omega arith;
