@@ -1,6 +1,5 @@
 -- What is seen of a register.
 -- Assumes nothing.
-use Rattle.std.specs.Prelude.{take}
 use Rattle.register.specs.declared.state.Register.{Register}
 use Rattle.register.specs.Calls.{State}
 use Rattle.register.specs.Rules.{View, seen_state}
@@ -8,7 +7,7 @@ use Rattle.register.specs.Rules.{View, seen_state}
 abbrev pub view_of : {D : Type 0} → Register D → View
 view_of r =
     record {
-      dates = take r.terms.len r.terms.dates;
+      dates = r.terms.dates.items;
       rate = r.terms.rate;
       holders = r.holders;
       rows = r.book.rows;

@@ -17,13 +17,13 @@ impl<D> Register<D> {
     fn is_empty(&self) -> bool
         ensures { result ≡ empty (judged_by self.now) }
     {
-        self.terms.len == 0
+        self.terms.dates.is_empty()
     }
 
     fn is_closed(&self) -> bool
         ensures { result ≡ closed (judged_by self.now) }
     {
-        self.terms.len as u64 <= self.book.period + 1
+        self.terms.dates.len() as u64 <= self.book.period + 1
     }
 
     // The day that ends the current period.
@@ -159,7 +159,7 @@ fn judge_holdings(holdings: &[u64]) -> Result<u64, Refusal>
     ensures judged { IsJudged (judge_holdings holdings.now) result }
     ensures nominal { IfOk result (λ n. n ≡ sum holdings.now) }
 {
-    if holdings.len() == 0 || holdings.len() > MOST_HOLDERS {
+    if holdings.is_empty() || holdings.len() > MOST_HOLDERS {
         return Err(Refusal::BadHolderCount);
     }
     match nominal_of(holdings) {

@@ -1,4 +1,4 @@
-use Rattle.std.proofs.Common.{◌≡◌, ◌-◌, take, sym, refl, ap, ◌∙◌, arith, rules}
+use Rattle.std.proofs.Common.{◌≡◌, ◌-◌, sym, refl, ap, ◌∙◌, arith, rules}
 use Rattle.std.proofs.lemmas.Bool.{leb-false}
 use Rattle.counts.specs.Counting.{asked}
 use Rattle.register.specs.Rules.{seen_state, first, days_on}
@@ -14,7 +14,7 @@ accrue-requires g c =
     let s = c.args.self.now in
     let v = view_of s in
     let within = advance_within (seen_state v) c.args.day c.in_ok-judge_advance.ensures in
-    let dates = take s.terms.len s.terms.dates in
+    let dates = s.terms.dates.items in
     let inside = leb-false _ _ within.0 in
     let next = next_date dates s.terms.rising s.book.period (omega arith) in
     let few =

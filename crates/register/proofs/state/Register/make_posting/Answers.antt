@@ -1,5 +1,4 @@
 use Rattle.std.proofs.Common.{◌*◌, sym, arith}
-use Rattle.std.proofs.lemmas.List.{length-take-le}
 use Rattle.std.proofs.lemmas.Bool.{leb-false}
 use Rattle.register.specs.Rules.{seen_state}
 use Rattle.register.specs.Views.{view_of}
@@ -11,10 +10,9 @@ pub begin-requires : goal.begin-requires
 begin-requires g c =
     let s = c.args.self.now in
     let running = leb-false _ _ (posting_open (seen_state (view_of s)) c.in_ok-judge_posting.ensures) in
-    let long = length-take-le s.terms.len s.terms.dates (omega arith) in
     record {
       periods = omega arith;
       carried =
           posted_ticks s.book.rows c.post-units.new.self.rows (100000 * c.per_year.result) s.book.room
-          (omega arith) (omega arith) c.post-units.ensures.rows;
+          (omega arith) (omega arith) c.post-units.ensures.after.rows;
     }
