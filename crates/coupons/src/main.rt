@@ -18,7 +18,7 @@ use journal::Journal;
 use print::{
     print_heading, print_legend, print_outcome, print_refusal, print_schedule, print_table,
 };
-use register::{Answer, Call, play};
+use register::{Call, play};
 use schedules::{Deal, schedule};
 use std::io;
 
@@ -27,12 +27,11 @@ use std::io;
 fn print_calls(rt: &HostRuntime, calls: &[Call; CALLS]) -> io::Result<()> {
     let basis = Actual360;
     let mut journal = Journal::new();
-    for last in 0..CALLS {
-        let call = &calls[last];
-        let mut answers = [Answer::Accepted(0); CALLS];
-        let register = play(basis, &calls[0..last + 1], &mut answers);
+    for (last, call) in calls.iter().enumerate() {
+        let mut answers = [Ok(0); CALLS];
+        let register = play(basis, &calls[..last + 1], &mut answers);
         let answer = answers[last];
-        if let Answer::Accepted(_) = answer {
+        if answer.is_ok() {
             journal.note(&basis, call);
         }
         print_outcome(rt, last + 1, call, answer)?;
@@ -54,7 +53,7 @@ fn print_bond(rt: &HostRuntime, diary: &Diary) -> io::Result<()> {
     print_heading(rt, &Actual360, &deal)?;
     match write_dates(&deal, &mut table) {
         Ok(count) => {
-            let dates = &table[0..count];
+            let dates = &table[..count];
             print_schedule(rt, dates)?;
             print_legend(rt, &Actual360)?;
             print_calls(rt, &diary.calls(dates))

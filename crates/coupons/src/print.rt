@@ -1,10 +1,10 @@
 // What is printed: the bond, and for each call its answer and the table of the holders.
-use crate::bond::{HOLDERS, RATE};
+use crate::bond::RATE;
 use crate::journal::Journal;
-use crate::line::{Line, unit_of};
+use crate::line::Line;
 use counts::DayCount;
 use days::{Layer, Refusal, date_of};
-use register::{Answer, Call, Row};
+use register::{Call, Row, ticks_per_unit};
 use schedules::Deal;
 use std::{fmt, io};
 
@@ -44,7 +44,7 @@ pub fn print_heading<D: DayCount>(rt: &HostRuntime, basis: &D, deal: &Deal) -> i
     )?;
     println!(rt;
         "Interest  {RATE}/100000 a year, actual/360; {} ticks are one minor unit",
-        unit_of(basis)
+        ticks_per_unit(basis)
     )
 }
 
@@ -61,7 +61,7 @@ pub fn print_legend<D: DayCount>(rt: &HostRuntime, basis: &D) -> io::Result<()> 
     println!(rt; "The two sides of the interest equation, in ticks:")?;
     println!(rt;
         "  left   (paid + due) x {} + ticks, from the register's rows",
-        unit_of(basis)
+        ticks_per_unit(basis)
     )?;
     println!(rt;
         "  right  holding x {RATE} x step of the day, added over the evenings passed, from the calls alone"
@@ -92,14 +92,14 @@ pub fn print_outcome(
     rt: &HostRuntime,
     number: usize,
     call: &Call,
-    answer: Answer,
+    answer: Result<u64, Refusal>,
 ) -> io::Result<()> {
     println!(rt; "")?;
     print!(rt; "{number}. ")?;
     print_call(rt, call)?;
     match answer {
-        Answer::Accepted(value) => println!(rt; "   answer: {value}"),
-        Answer::Refused(refusal) => print_refusal(rt, refusal),
+        Ok(value) => println!(rt; "   answer: {value}"),
+        Err(refusal) => print_refusal(rt, refusal),
     }
 }
 
@@ -128,8 +128,8 @@ pub fn print_table<D: DayCount>(
 ) -> io::Result<()> {
     println!(rt; "   holder   holding   paid    due          ticks           left          right")?;
     let mut all = Line::total(journal.all);
-    for (i, row) in rows.iter().take(HOLDERS).enumerate() {
-        let line = Line::new(basis, row, journal.holders[i]);
+    for (i, (row, account)) in rows.iter().zip(&journal.holders).enumerate() {
+        let line = Line::new(basis, row, *account);
         print!(rt; "   {i:>6}")?;
         print_line(rt, &line)?;
         all.add(&line);

@@ -5,11 +5,9 @@ ghost use Rattle.register.specs.Registers.{GoesByRule};
 use crate::book::Book;
 use crate::state::Register;
 use crate::terms::Terms;
+use crate::unit::ticks_per_unit;
 use counts::DayCount;
 use days::Refusal;
-
-// V ticks are one unit of money, where V is this many times the denominator.
-const TICKS: u64 = 100_000;
 
 impl<D: DayCount> Register<D> {
     // A holder's due is paid; answers it.
@@ -55,8 +53,7 @@ impl<D: DayCount> Register<D> {
         ensures { GoesByRule D.counted D.per self.old posting self.new result }
     {
         self.judge_posting()?;
-        let v = TICKS * self.basis.per_year() as u64;
-        let units = self.book.post(v);
+        let units = self.book.post(ticks_per_unit(&self.basis));
         if self.today == self.end() {
             self.book.begin();
         }

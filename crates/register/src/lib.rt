@@ -12,11 +12,13 @@ mod row;
 mod rows;
 mod state;
 mod terms;
+mod unit;
 
 pub use call::Call;
 pub use history::play;
 pub use row::Row;
 pub use state::Register;
+pub use unit::ticks_per_unit;
 
 #[cfg(test)]
 mod tests;

@@ -1,6 +1,6 @@
 // A register's whole life, with every refusal that a call can meet.
 use crate::*;
-use counts::Actual360;
+use counts::{Actual360, Actual365};
 use days::Refusal;
 
 // Over 360 and at this rate a day's interest on 1000 is one unit.
@@ -102,4 +102,18 @@ fn two_periods(rt: HostRuntime) {
     for (answer, wanted) in answers.iter().zip(expected.iter()) {
         assert_eq!(rt; *answer, *wanted);
     }
+}
+
+#[test]
+fn ticks_are_worth(rt: HostRuntime) {
+    let row = Row {
+        holding: 1000,
+        paid: 60,
+        due: 15,
+        ticks: 7,
+    };
+    assert_eq!(rt; ticks_per_unit(&Actual360), 36_000_000);
+    assert_eq!(rt; row.worth(&Actual360), 2_700_000_007);
+    assert_eq!(rt; ticks_per_unit(&Actual365), 36_500_000);
+    assert_eq!(rt; row.worth(&Actual365), 2_737_500_007);
 }

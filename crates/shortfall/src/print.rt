@@ -1,8 +1,9 @@
 // What is printed: the counts, the sale, and what becomes of it either way.
 use crate::sale::Sale;
-use crate::shares::{NOMINAL, RATE, Shares, ticks_of, ticks_per_unit};
+use crate::shares::{NOMINAL, RATE, Shares, ticks_of};
 use counts::{BondBasis, DayCount};
 use days::{Layer, Refusal, date_of};
+use register::ticks_per_unit;
 use std::{fmt, io};
 
 // A day as its date.
@@ -49,7 +50,7 @@ pub fn print_sale(rt: &HostRuntime, sale: &Sale) -> io::Result<()> {
     println!(rt;
         "Interest to {} in ticks, of which {} are one minor unit:",
         Shown(sale.seen),
-        ticks_per_unit()
+        ticks_per_unit(&BondBasis)
     )
 }
 

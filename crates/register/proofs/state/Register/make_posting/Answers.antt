@@ -13,6 +13,6 @@ begin-requires g c =
     record {
       periods = omega arith;
       carried =
-          posted_ticks s.book.rows c.post-units.new.self.rows (100000 * c.per_year.result) s.book.room
+          posted_ticks s.book.rows c.post-units.new.self.rows _ s.book.room
           (omega arith) (omega arith) c.post-units.ensures.after.rows;
     }
