@@ -3,10 +3,10 @@
 use Rattle.std.proofs.Common.{◌≡◌, ℕ, zero, suc, ◌+◌, ◌-◌, ◌*◌, ◌%◌, ◌^◌, ◌<◌, ◌≤◌, List, [], ◌∷◌, map, length, get_or, set, replicate, sum_by, sum, sym, refl, ap, ◌∙◌, mul-le-mul_right, mod-lt, add-mul, mul-le-mul, arith, length-set}
 use lib.ListN.{length-map}
 use Rattle.std.proofs.lemmas.List.{length-append, length-replicate}
-use Rattle.std.proofs.lemmas.List.Sums.{sum_by-cons, sum_by-append, sum_by-set, get_or-le-sum_by}
+use Rattle.std.proofs.lemmas.List.Sums.{sum_by-cons, sum_by-append, sum_by-set, get_or-le-sum_by, sum_by-le-sum_by}
 use Rattle.register.specs.declared.row.Row.{Row}
 use Rattle.register.specs.Rows.{accrued, posted, settled, gained, lost, worth, total_holding, total_ticks, total_worth, zero_row, opened_row, opened}
-use Rattle.register.proofs.Sweeps.{sum_by_below, units_below}
+use Rattle.register.proofs.Sweeps.{units_below}
 
 pub sum_by_map : {X Y : Type 0} (f : Y → ℕ) (g : X → Y) (xs : List X) → sum_by f (map g xs) ≡ sum_by (λ x. f (g x)) xs
 sum_by_map f g [] = refl
@@ -98,7 +98,7 @@ post_bounded rows now tally period v b low high e =
     let ticks = posted_ticks rows now v b.room low high e in
     let money : total_worth 100000 now ≤ total_worth 100000 rows =
     rw (ap (total_worth 100000) e ∙ sum_by_map (worth 100000) (posted v) rows)
-    (sum_by_below (λ r. worth 100000 (posted v r)) (worth 100000) (λ r. omega (arith, units_below r.ticks v low)) rows)
+    (sum_by-le-sum_by (λ r. worth 100000 (posted v r)) (worth 100000) rows (λ r. omega (arith, units_below r.ticks v low)))
     in
     record {
       room = ap length e ∙ length-map rows (posted v) ∙ b.room;
@@ -152,18 +152,6 @@ change_bounded rows now tally period less more b c h =
       nominal = omega arith;
       carried = omega arith;
       money = omega (arith, c.money 100000);
-    }
-
--- a new period begins with no count
-pub begin_bounded : (rows : List Row) (tally period : ℕ) → Bounded rows tally period → period < 480 → total_ticks rows ≤ 585600000 → Bounded rows 0 (period + 1)
-begin_bounded rows tally period b less few =
-    record {
-      room = b.room;
-      counted = omega arith;
-      periods = omega arith;
-      nominal = b.nominal;
-      carried = omega arith;
-      money = omega arith;
     }
 
 -- what a row of a bounded book holds, at the most

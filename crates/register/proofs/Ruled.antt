@@ -22,11 +22,3 @@ pub advanced_view :
     ≡ ruled count per v (advance day)
 advanced_view count per v day n rows tally period e rows_are tally-is period-is =
     rw (rows_are, tally-is, period-is, e) refl
-
-pub new_view :
-    (dates : List ℕ) (len rate holders : ℕ) (rows : List Row) (today period tally : ℕ) → len ≡ 0 → rate ≡ 0 → holders ≡ 0 →
-    rows ≡ opened [] → today ≡ 0 → period ≡ 0 → tally ≡ 0 →
-    record { dates = take len dates; rate = rate; holders = holders; rows = rows; today = today; period = period; tally = tally }
-    ≡ fresh_view
-new_view dates len rate holders rows today period tally none low no_one rows_are today-is period-is tally-is =
-    rw (none, low, no_one, rows_are, today-is, period-is, tally-is) refl

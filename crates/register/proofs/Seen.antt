@@ -24,10 +24,6 @@ held_at holders rows i h less =
 pub known_below : (holders : ℕ) (rows : List Row) (i : ℕ) → holders ≤ length rows → leb (length (held holders rows)) i ≡ false → i < holders
 known_below holders rows i h f = omega (arith, leb-false _ _ f, held_long holders rows h)
 
--- the dates in use
-pub date_seen : (dates : List ℕ) (len i : ℕ) → i < len → get_or (take len dates) i 0 ≡ get_or dates i 0
-date_seen dates len i less = get_or-take len dates i 0 less
-
 -- a known holder has a row, with the holding that is seen
 pub known_row :
     (holders : ℕ) (rows : List Row) (i amount : ℕ) → holders ≤ 16 → length rows ≡ 16 → leb (length (held holders rows)) i ≡ false →

@@ -4,7 +4,7 @@ use Rattle.std.proofs.Common.{◌≡◌, ℕ, suc, ◌+◌, ◌-◌, ◌*◌, �
 use lib.ListN.{length-map}
 use Rattle.std.proofs.lemmas.List.{get_or-append_right, get_or-drop, take_all, drop_all, length-take-le, length-append, length-drop, get_or_default, set_at, map_more}
 use Rattle.std.proofs.lemmas.List.Edits.{map_over_more}
-use Rattle.std.proofs.lemmas.List.Sums.{get_or-le-sum_by, sum_by-cons, sum_by_more, sum_by-take-le}
+use Rattle.std.proofs.lemmas.List.Sums.{get_or-le-sum_by, sum_by-cons, sum_by_more, sum_by-take-le, sum_by-le-sum_by}
 use Rattle.std.proofs.lemmas.Nat.{div-add-mod'}
 use Rattle.register.specs.declared.row.Row.{Row}
 use Rattle.register.specs.Rows.{zero_row, worth, total_holding, total_ticks, total_worth, total_units, opened_row, opened}
@@ -57,12 +57,6 @@ accrue_fits rows i rate n less room product =
     let hrn = mul-le-mul_right n hr in
     (omega arith, omega arith)
 
--- a sum of smaller terms is smaller
-pub sum_by_below : {X : Type 0} (f g : X → ℕ) → ((x : X) → f x ≤ g x) → (xs : List X) → sum_by f xs ≤ sum_by g xs
-sum_by_below f g less [] = omega arith
-sum_by_below f g less (x ∷ xs) =
-    simp (sum_by-cons f x xs, sum_by-cons g x xs) (omega (arith, less x, sum_by_below f g less xs))
-
 -- whole units of v ticks, in ticks
 pub units_below : (t v : ℕ) → 100000 ≤ v → (t / v * 100000 + t % v ≤ t) × (t / v ≤ t)
 units_below t v h =
@@ -85,7 +79,7 @@ pub units_fit :
 units_fit rows i v units more less h room e f =
     let next = sum_by_more (λ r. r.ticks / v) rows i zero_row less in
     let part = sum_by-take-le (λ r. r.ticks / v) rows (i + 1) in
-    let all = sum_by_below (λ r. r.ticks / v) (λ r. r.ticks) (λ r. (units_below r.ticks v h).1) rows in
+    let all = sum_by-le-sum_by (λ r. r.ticks / v) (λ r. r.ticks) rows (λ r. (units_below r.ticks v h).1) in
     (omega arith, omega arith)
 
 -- rows that are opened one after another

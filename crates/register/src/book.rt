@@ -1,4 +1,5 @@
-// Sixteen rows, with the bounds that keep every sum within 64 bits.
+// Sixteen rows, with the bounds that keep every sum within 64 bits. Always sixteen, of which a register counts those in use:
+// the rules of a register see all of them (specs/Rules), and no row is ever added or taken away.
 ghost use Rattle.std.specs.Prelude.{◌≡◌, ◌+◌, ◌*◌, ◌<◌, ◌≤◌, map, length, sum, ◌≢◌, slice_index_or};
 ghost use Rattle.register.specs.Rows.{accrued, posted, settled, gained, lost, total_holding, total_ticks, total_worth, total_units, zero_row, moved, redeemed, paid_out, opened};
 
