@@ -3,8 +3,9 @@
 
 mod actual;
 mod count;
+mod ranged;
 mod thirty;
 
-pub use actual::{Actual360, Actual365};
+pub use actual::{Actual, Actual360, Actual365, actual_360, actual_365};
 pub use count::DayCount;
 pub use thirty::{BondBasis, European};

@@ -172,7 +172,8 @@ pub date_found :
     (n k i : ℕ) (leaps : Bool) (before_year before_month y m d : ℕ) → n ≤ last_day → leaps ≡ leap (1900 + k) →
     (k < 300) × Within year_span n k → before_year ≡ start_of year_span k →
     (i < 12) × Within (month_span leaps) (n - before_year) i → before_month ≡ start_of (month_span leaps) i →
-    y ≡ 1900 + k → m ≡ i + 1 → d ≡ n - before_year - before_month + 1 → Some (y, m, d) ≡ date_of n
+    y ≡ 1900 + k → m ≡ i + 1 → d ≡ n - before_year - before_month + 1 →
+    Some (y, m, d) ≡ date_of n
 date_found n k i leaps before_year before_month y m d in_range is-leap in_year is-year in_month is-month ey em ed =
     let p = settled n k i in_year.0 in_month.0 in_year.1 (rw (is-leap, is-year) at in_month.1) in
     let before : before_month ≡ start_of (month_span (leap (1900 + k))) i = rw is-leap at is-month in

@@ -2,6 +2,7 @@
 -- Assumes nothing.
 use Rattle.std.specs.Prelude.{ℕ, ◌+◌, ◌-◌, ◌%◌, ◌≤◌, Bool, cond, not, ◌&&◌, ◌||◌, [], ◌∷◌, Some, None, Option, ◌==◌, nat_le, slice_index}
 use Rattle.days.specs.Spans.{start_of, span_of}
+use Rattle.days.specs.declared.dates.Date.{Date}
 
 abbrev pub first_year : ℕ
 first_year = 1900
@@ -64,6 +65,12 @@ day_of n = 1 + (day_in_year n - start_of (month_span (leap (year_of n))) (month_
 -- the date of a day number, absent above the range
 abbrev pub date_of : ℕ → Option (ℕ × ℕ × ℕ)
 date_of n = cond (nat_le n last_day) (Some (year_of n, month_of n, day_of n)) None
+
+abbrev pub date : ℕ → ℕ → ℕ → Date
+date y m d = record { year = y; month = m; day = d }
+
+abbrev pub dated : ℕ → Option Date
+dated n = cond (nat_le n last_day) (Some (date (year_of n) (month_of n) (day_of n))) None
 
 -- the last day of the month that holds day n
 abbrev pub month_end : ℕ → ℕ
