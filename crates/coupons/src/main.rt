@@ -12,7 +12,7 @@ mod print;
 use anyhow::Context;
 use bond::{CALLS, DATES, Diary};
 use calendar::weekends_and_easter;
-use counts::Actual360;
+use counts::actual_360;
 use days::Refusal;
 use journal::Journal;
 use print::{
@@ -25,7 +25,7 @@ use std::io;
 // Each call is shown by playing it behind the calls before it on a new register, so that what is printed is what the
 // proved call says of that list. The journal is fed the call if it was accepted.
 fn print_calls(rt: &HostRuntime, calls: &[Call; CALLS]) -> io::Result<()> {
-    let basis = Actual360;
+    let basis = actual_360();
     let mut journal = Journal::new();
     for (last, call) in calls.iter().enumerate() {
         let mut answers = [Ok(0); CALLS];
@@ -50,12 +50,12 @@ fn write_dates(deal: &Deal, table: &mut [u32]) -> Result<usize, Refusal>
 fn print_bond(rt: &HostRuntime, diary: &Diary) -> io::Result<()> {
     let deal = diary.deal();
     let mut table = [0; DATES];
-    print_heading(rt, &Actual360, &deal)?;
+    print_heading(rt, &actual_360(), &deal)?;
     match write_dates(&deal, &mut table) {
         Ok(count) => {
             let dates = &table[..count];
             print_schedule(rt, dates)?;
-            print_legend(rt, &Actual360)?;
+            print_legend(rt, &actual_360())?;
             print_calls(rt, &diary.calls(dates))
         }
         Err(refusal) => print_refusal(rt, refusal),

@@ -3,40 +3,18 @@ use crate::bond::RATE;
 use crate::journal::Journal;
 use crate::line::Line;
 use counts::DayCount;
-use days::{Layer, Refusal, date_of};
+use days::{Date, DateOrNone, Refusal};
 use register::{Call, Row, ticks_per_unit};
 use schedules::Deal;
-use std::{fmt, io};
-
-// A day as its date.
-#[derive(Clone, Copy)]
-struct Shown(u32);
-
-impl fmt::Display for Shown {
-    fn fmt<W: fmt::Write>(&self, f: &mut fmt::Formatter<W>) -> fmt::Result {
-        match date_of(self.0) {
-            Some((year, month, day)) => write!(f, "{year:04}-{month:02}-{day:02}"),
-            None => f.pad("none"),
-        }
-    }
-}
-
-fn letter_of(layer: Layer) -> char {
-    match layer {
-        Layer::Text => 'T',
-        Layer::Calendar => 'C',
-        Layer::Deal => 'D',
-        Layer::Register => 'R',
-    }
-}
+use std::io;
 
 pub fn print_heading<D: DayCount>(rt: &HostRuntime, basis: &D, deal: &Deal) -> io::Result<()> {
     println!(rt; "Half a year of a bond, call by call")?;
     println!(rt; "")?;
     println!(rt;
         "Term      {} to {}, every {} months, short first period",
-        Shown(deal.start),
-        Shown(deal.end),
+        DateOrNone(Date::of(deal.start)),
+        DateOrNone(Date::of(deal.end)),
         deal.months
     )?;
     println!(rt;
@@ -51,7 +29,7 @@ pub fn print_heading<D: DayCount>(rt: &HostRuntime, basis: &D, deal: &Deal) -> i
 pub fn print_schedule(rt: &HostRuntime, dates: &[u32]) -> io::Result<()> {
     print!(rt; "Dates   ")?;
     for date in dates {
-        print!(rt; "  {}", Shown(*date))?;
+        print!(rt; "  {}", DateOrNone(Date::of(*date)))?;
     }
     println!(rt; "")?;
     println!(rt; "")
@@ -72,7 +50,7 @@ fn print_call(rt: &HostRuntime, call: &Call) -> io::Result<()> {
     match call {
         Call::Post => println!(rt; "post"),
         Call::Open { holdings, .. } => println!(rt; "open with holdings {holdings:?}"),
-        Call::Advance { day } => println!(rt; "advance to {}", Shown(*day)),
+        Call::Advance { day } => println!(rt; "advance to {}", DateOrNone(Date::of(*day))),
         Call::Transfer { from, to, amount } => {
             println!(rt; "transfer {amount} from holder {from} to holder {to}")
         }
@@ -82,10 +60,7 @@ fn print_call(rt: &HostRuntime, call: &Call) -> io::Result<()> {
 }
 
 pub fn print_refusal(rt: &HostRuntime, refusal: Refusal) -> io::Result<()> {
-    let number = refusal.number();
-    let layer = letter_of(refusal.layer());
-    let place = refusal.place();
-    println!(rt; "   refused: {number}, layer {layer}, place {place}")
+    println!(rt; "   refused: {refusal}")
 }
 
 pub fn print_outcome(

@@ -1,6 +1,6 @@
 // A register's whole life, with every refusal that a call can meet.
 use crate::*;
-use counts::{Actual360, Actual365};
+use counts::{actual_360, actual_365};
 use days::Refusal;
 
 // Over 360 and at this rate a day's interest on 1000 is one unit.
@@ -47,7 +47,7 @@ fn opening_is_refused(rt: HostRuntime) {
         Err(Refusal::NotEmpty),
     ];
     let mut answers = [Ok(0); 9];
-    let _register = play(Actual360, &calls, &mut answers);
+    let _register = play(actual_360(), &calls, &mut answers);
     for (answer, wanted) in answers.iter().zip(expected.iter()) {
         assert_eq!(rt; *answer, *wanted);
     }
@@ -98,7 +98,7 @@ fn two_periods(rt: HostRuntime) {
         Err(Refusal::UnknownHolder),
     ];
     let mut answers = [Ok(0); 16];
-    let _register = play(Actual360, &calls, &mut answers);
+    let _register = play(actual_360(), &calls, &mut answers);
     for (answer, wanted) in answers.iter().zip(expected.iter()) {
         assert_eq!(rt; *answer, *wanted);
     }
@@ -112,8 +112,8 @@ fn ticks_are_worth(rt: HostRuntime) {
         due: 15,
         ticks: 7,
     };
-    assert_eq!(rt; ticks_per_unit(&Actual360), 36_000_000);
-    assert_eq!(rt; row.worth(&Actual360), 2_700_000_007);
-    assert_eq!(rt; ticks_per_unit(&Actual365), 36_500_000);
-    assert_eq!(rt; row.worth(&Actual365), 2_737_500_007);
+    assert_eq!(rt; ticks_per_unit(&actual_360()), 36_000_000);
+    assert_eq!(rt; row.worth(&actual_360()), 2_700_000_007);
+    assert_eq!(rt; ticks_per_unit(&actual_365()), 36_500_000);
+    assert_eq!(rt; row.worth(&actual_365()), 2_737_500_007);
 }
