@@ -32,12 +32,7 @@ impl Line {
         ensures { (result.left ≡ 0) × (result.right ≡ account.interest) }
     {
         Line {
-            row: Row {
-                holding: 0,
-                paid: 0,
-                due: 0,
-                ticks: 0,
-            },
+            row: Row::default(),
             left: 0,
             right: account.interest,
         }

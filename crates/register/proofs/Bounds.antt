@@ -210,6 +210,11 @@ pub sum_none : (holdings : List ℕ) → sum_by (λ h. 0) holdings ≡ 0
 sum_none [] = refl
 sum_none (h ∷ hs) = sum_by-cons (λ k. 0) h hs ∙ omega (arith, sum_none hs)
 
+pub opened_long : (holdings : List ℕ) → length holdings ≤ 16 → length (opened holdings) ≡ 16
+opened_long holdings few =
+    length-append (map opened_row holdings) (replicate (16 - length holdings) zero_row)
+    ∙ omega (arith, length-map holdings opened_row, length-replicate (16 - length holdings) zero_row)
+
 pub opened_bounded :
     (holdings : List ℕ) (rows : List Row) → length holdings ≤ 16 → sum holdings ≤ 10000000000 → rows ≡ opened holdings → Bounded rows 0 0
 opened_bounded holdings rows few most e =
@@ -218,13 +223,8 @@ opened_bounded holdings rows few most e =
     let money : total_worth 100000 rows ≡ 0 =
     ap (total_worth 100000) e ∙ sum_opened (worth 100000) (λ h. 0) refl (λ h. refl) holdings ∙ sum_none holdings
     in
-    let long : length rows ≡ 16 =
-    ap length e
-    ∙ length-append (map opened_row holdings) (replicate (16 - length holdings) zero_row)
-    ∙ omega (arith, length-map holdings opened_row, length-replicate (16 - length holdings) zero_row)
-    in
     record {
-      room = long;
+      room = ap length e ∙ opened_long holdings few;
       counted = omega arith;
       periods = omega arith;
       nominal = omega arith;

@@ -13,3 +13,4 @@ pub mod Law
 pub mod Carries
 pub mod Runs
 pub mod Playing
+pub mod Opening

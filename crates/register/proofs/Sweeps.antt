@@ -81,28 +81,3 @@ units_fit rows i v units more less h room e f =
     let part = sum_by-take-le (λ r. r.ticks / v) rows (i + 1) in
     let all = sum_by-le-sum_by (λ r. r.ticks / v) (λ r. r.ticks) rows (λ r. (units_below r.ticks v h).1) in
     (omega arith, omega arith)
-
--- rows that are opened one after another
-abbrev pub opening_rows : List ℕ → ℕ → List Row
-opening_rows holdings i = map opened_row (take i holdings) ++ replicate (16 - i) zero_row
-
-pub opened_more :
-    (holdings : List ℕ) (rows : List Row) (i : ℕ) → i < length holdings → length holdings ≤ 16 →
-    rows ≡ opening_rows holdings i → set rows i (opened_row (get_or holdings i 0)) ≡ opening_rows holdings (i + 1)
-opened_more holdings rows i less few e =
-    let front : length (map opened_row (take i holdings)) ≡ i =
-    length-map (take i holdings) opened_row ∙ length-take-le i holdings (omega arith)
-    in
-    let count : 16 - i ≡ suc (16 - (i + 1)) = omega arith in
-    let row = opened_row (get_or holdings i 0) in
-    let more = map_more opened_row holdings i 0 less in
-    rw e
-    (rw count
-    (set_at (map opened_row (take i holdings)) zero_row (replicate (16 - (i + 1)) zero_row) row i front
-    ∙ rw more (sym (append_assoc (map opened_row (take i holdings)) (row ∷ []) (replicate (16 - (i + 1)) zero_row)))))
-
-pub opened_all :
-    (holdings : List ℕ) (rows : List Row) (i : ℕ) → i ≡ length holdings → rows ≡ opening_rows holdings i → rows ≡ opened holdings
-opened_all holdings rows i end e =
-    let all = take_all (length holdings) holdings (omega arith) in
-    e ∙ rw (end, all) refl

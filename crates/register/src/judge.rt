@@ -84,7 +84,7 @@ impl<D> Register<D> {
         ensures { IsJudged (judge (judged_by self.now) (advance day)) result }
     {
         self.judge_posting()?;
-        if day < self.today || self.end() < day {
+        if !(self.today..=self.end()).contains(&day) {
             return Err(Refusal::DayOutOfPeriod);
         }
         Ok(())
@@ -151,7 +151,7 @@ impl<D> Register<D> {
 fn has_good_dates(dates: &[u32]) -> bool
     ensures { result ≡ good_dates dates.now }
 {
-    2 <= dates.len() && dates.len() <= MOST_DATES && is_steady(dates)
+    (2..=MOST_DATES).contains(&dates.len()) && is_steady(dates)
 }
 
 // Answers the nominal.

@@ -7,7 +7,7 @@ use crate::unit::ticks_per_unit;
 use counts::DayCount;
 
 // A holding in minor units of nominal; interest that was paid, that is due, and that is carried in ticks.
-#[derive(Clone, Copy)]
+#[derive(Clone, Copy, Default)]
 pub struct Row {
     pub holding: u64,
     pub paid: u64,
