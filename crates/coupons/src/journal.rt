@@ -102,7 +102,7 @@ impl<'a> Journal<'a> {
         }
     }
 
-    // Notes a call that was accepted.
+    // Notes a call that was accepted, each kind in its own way.
     pub fn note<D: DayCount>(&mut self, basis: &D, call: &Call<'a>) {
         match call {
             Call::Post | Call::Pay { .. } => (),

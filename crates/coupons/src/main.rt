@@ -29,7 +29,7 @@ fn print_calls(rt: &HostRuntime, calls: &[Call; CALLS]) -> io::Result<()> {
     let mut journal = Journal::new();
     for (last, call) in calls.iter().enumerate() {
         let mut answers = [Ok(0); CALLS];
-        let register = play(basis, &calls[..last + 1], &mut answers);
+        let register = play(basis, &calls[..=last], &mut answers);
         let answer = answers[last];
         if answer.is_ok() {
             journal.note(&basis, call);

@@ -46,6 +46,7 @@ pub fn print_legend<D: DayCount>(rt: &HostRuntime, basis: &D) -> io::Result<()> 
     )
 }
 
+// A call as a sentence, each kind with words of its own.
 fn print_call(rt: &HostRuntime, call: &Call) -> io::Result<()> {
     match call {
         Call::Post => println!(rt; "post"),

@@ -1,9 +1,9 @@
 -- The bounds of a book, and that each call keeps them.
 -- Assumes nothing.
-use Rattle.std.proofs.Common.{◌≡◌, ℕ, zero, suc, ◌+◌, ◌-◌, ◌*◌, ◌%◌, ◌^◌, ◌<◌, ◌≤◌, List, [], ◌∷◌, map, length, get_or, set, replicate, sum_by, sum, sym, refl, ap, ◌∙◌, mul-le-mul_right, mod-lt, add-mul, mul-le-mul, arith, length-set}
+use Rattle.std.proofs.Common.{◌≡◌, ℕ, zero, suc, ◌+◌, ◌-◌, ◌*◌, ◌%◌, ◌<◌, ◌≤◌, List, [], ◌∷◌, map, length, get_or, set, replicate, sum_by, sum, sym, refl, ap, ◌∙◌, mul-le-mul_right, mod-lt, add-mul, mul-le-mul, arith, length-set}
 use lib.ListN.{length-map}
 use Rattle.std.proofs.lemmas.List.{length-append, length-replicate}
-use Rattle.std.proofs.lemmas.List.Sums.{sum_by-cons, sum_by-append, sum_by-set, get_or-le-sum_by, sum_by-le-sum_by}
+use Rattle.std.proofs.lemmas.List.Sums.{sum_by-cons, sum_by-append, sum_by-set, sum_by-le-sum_by}
 use Rattle.register.specs.declared.row.Row.{Row}
 use Rattle.register.specs.Rows.{accrued, posted, settled, gained, lost, worth, total_holding, total_ticks, total_worth, zero_row, opened_row, opened}
 use Rattle.register.proofs.Sweeps.{units_below}
@@ -50,12 +50,6 @@ interest_most : (rows : List Row) (rate n : ℕ) → total_holding rows ≤ 1000
 interest_most rows rate n few low =
     let product : total_holding rows * rate ≤ 10000000000 * 50000 = mul-le-mul few low in
     (product, mul-le-mul_right n product)
-
-pub accrue_room :
-    (rows : List Row) (tally period rate n : ℕ) → Bounded rows tally period → rate ≤ 50000 → tally + n ≤ 1098 →
-    (total_ticks rows + total_holding rows * rate * n < 2 ^ 64) × (total_holding rows * rate < 2 ^ 64)
-accrue_room rows tally period rate n b low within =
-    let most = interest_most rows rate n b.nominal low in (omega arith, omega arith)
 
 pub accrue_bounded :
     (rows now : List Row) (tally period rate n : ℕ) → Bounded rows tally period → rate ≤ 50000 → tally + n ≤ 1098 →
@@ -140,28 +134,6 @@ changed_twice rows mid now a b c d p q =
       ticks = q.ticks ∙ p.ticks;
       money = λ v. q.money v ∙ p.money v;
     }
-
-pub change_bounded :
-    (rows now : List Row) (tally period less more : ℕ) → Bounded rows tally period → Changed rows now less more → more ≤ less →
-    Bounded now tally period
-change_bounded rows now tally period less more b c h =
-    record {
-      room = c.room ∙ b.room;
-      counted = b.counted;
-      periods = b.periods;
-      nominal = omega arith;
-      carried = omega arith;
-      money = omega (arith, c.money 100000);
-    }
-
--- what a row of a bounded book holds, at the most
-pub row_most :
-    (rows : List Row) (tally period i : ℕ) → Bounded rows tally period → i < 16 →
-    ((get_or rows i zero_row).holding ≤ 10000000000) × ((get_or rows i zero_row).paid + (get_or rows i zero_row).due < 2 ^ 64)
-row_most rows tally period i b less =
-    let h = get_or-le-sum_by (λ r. r.holding) rows i zero_row (omega arith) in
-    let w = get_or-le-sum_by (worth 100000) rows i zero_row (omega arith) in
-    (omega arith, omega arith)
 
 -- the three changes of one row
 pub lost_changes :

@@ -8,6 +8,7 @@ use counts::DayCount;
 use days::Refusal;
 
 impl<D: DayCount> Register<D> {
+    // A match over the kinds of calls: each arm is the call of its kind.
     fn dispatch(&mut self, call: &Call) -> Result<u64, Refusal>
         ensures { GoesByRule D.counted D.per self.old (plain call.now) self.new result }
     {

@@ -1,5 +1,4 @@
-// Sixteen rows, with the bounds that keep every sum within 64 bits. Always sixteen, of which a register counts those in use:
-// the rules of a register see all of them (specs/Rules), and no row is ever added or taken away.
+// Sixteen rows, with the bounds that keep every sum within 64 bits.
 ghost use Rattle.std.specs.Prelude.{◌≡◌, ◌+◌, ◌*◌, ◌<◌, ◌≤◌, map, length, sum, ◌≢◌, slice_index_or};
 ghost use Rattle.register.specs.Rows.{accrued, posted, settled, gained, lost, total_holding, total_ticks, total_worth, total_units, zero_row, moved, redeemed, paid_out, opened};
 
@@ -10,6 +9,8 @@ pub(crate) const MOST_HOLDERS: usize = 16;
 
 // The tally is the count so far in the current period. A period counts at most three years of 366 days, and a
 // holding times a rate is at most 500,000,000,000,000 ticks a counted day: from these the bounds follow.
+// The rows are an array, and not a vector of those in use: sixteen row structs are a form that the project keeps
+// (docs/DECISIONS.md), and the rules of a register see all of them. A register counts those in use.
 #[derive(Drop)]
 pub(crate) struct Book {
     pub(crate) rows: [Row; 16],

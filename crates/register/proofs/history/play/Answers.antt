@@ -3,7 +3,7 @@ use Rattle.std.proofs.lemmas.List.{length-take, get_or-take}
 use Rattle.counts.specs.Counting.{asked}
 use Rattle.register.specs.declared.call.Call.TheVariants.{Post}
 use Rattle.register.specs.Plain.{plain, played}
-use Rattle.register.specs.Runs.{fresh_view, stepped, outcome, run, outcomes, seen_answer}
+use Rattle.register.specs.Runs.{fresh_view, run, outcomes, seen_answer}
 use Rattle.register.specs.Views.{view_of}
 use Rattle.register.proofs.Playing.{played_more, played_all, played_long, beyond, call_at}
 use Rattle.register.proofs.Runs.{law_of_interest}
