@@ -43,7 +43,7 @@ read_on_line (kind ∷ kinds) end (word ∷ later) read e =
 
 word_faults_on :
     (kind : Kind) (line : ℕ) (word : Word) (later : List Word) (o : Option (Said kind)) →
-    FaultsOn line (read_word kind line word later o)
+    FaultsOn line (read_word line word later o)
 word_faults_on kind line word later None = one_on _ line word.column
 word_faults_on kind line word later (Some s) = none_on line _
 
@@ -52,7 +52,7 @@ fields_fault_on [] end [] = none_on end.line tt
 fields_fault_on [] end (word ∷ later) = one_on _ end.line word.column
 fields_fault_on (kind ∷ kinds) end [] = one_on _ end.line end.column
 fields_fault_on (kind ∷ kinds) end (word ∷ later) =
-    then_on end.line (read_word kind end.line word later (said kind word.bytes))
+    then_on end.line (read_word end.line word later (said kind word.bytes))
     (λ read. and_then (fields kinds end read.1) (λ others. Ok (read.0, others)))
     (word_faults_on kind end.line word later (said kind word.bytes))
     (λ read is.
@@ -61,7 +61,7 @@ fields_fault_on (kind ∷ kinds) end (word ∷ later) =
 
 settle_at_on :
     (kind : Kind) (line column : ℕ) (s : Said kind) (r : Result (Value kind) Refusal) →
-    FaultsOn line (settle_at kind (placed s line column) r)
+    FaultsOn line (settle_at (placed s line column) r)
 settle_at_on kind line column s (Ok v) = none_on line _
 settle_at_on kind line column s (Err refusal) = one_on refusal line column
 
@@ -70,7 +70,7 @@ settle_fault_on :
     FaultsOn line (settle_each kinds read)
 settle_fault_on [] line read on = none_on line tt
 settle_fault_on (kind ∷ kinds) line read on =
-    then_on line (settle_at kind read.0 (settled kind read.0.value))
+    then_on line (settle_at read.0 (settled kind read.0.value))
     (λ first. and_then (settle_each kinds read.1) (λ others. Ok (first, others)))
     (λ found e.
     settle_at_on kind read.0.line read.0.column read.0.value (settled kind read.0.value) found e ∙ on.0)

@@ -33,7 +33,7 @@ module _ (kind : Kind) (kinds : List Kind) where
   first_said :
       (end : Ending) (word : Word) (later : List Word) (read : Each Said (kind ∷ kinds)) (o : Option (Said kind)) →
       said kind word.bytes ≡ o →
-      and_then (read_word kind end.line word later o)
+      and_then (read_word end.line word later o)
       (λ one. and_then (fields kinds end one.1) (λ others. Ok (one.0, others)))
       ≡ Ok read → FirstRead end word later read
   first_said end word later read None e read_is = absurd (never_both _ _ (sym read_is))
@@ -62,7 +62,7 @@ module _ (kind : Kind) (kinds : List Kind) where
   first_judged :
       (read : Each Said (kind ∷ kinds)) (each : Each Value (kind ∷ kinds)) (r : Result (Value kind) Refusal) →
       settled kind read.0.value ≡ r →
-      and_then (settle_at kind read.0 r)
+      and_then (settle_at read.0 r)
       (λ first. and_then (settle_each kinds read.1) (λ others. Ok (first, others)))
       ≡ Ok each → FirstSettled read each
   first_judged read each (Err refusal) e each_is = absurd (never_both _ _ (sym each_is))

@@ -1,54 +1,57 @@
 // What stands behind each mark: its fields, and no word more. All fields are read before the first value is judged.
 ghost use Rattle.std.specs.Prelude.{◌≡◌};
 ghost use Rattle.text.specs.Bodies.{body};
-ghost use Rattle.text.specs.declared.mark.Mark.TheVariants.{Pattern, ClosedDay, Offset, Deal, Holding, Advance, Transfer, Redemption, Posting, Payment};
 
+use crate::basis::Basis;
 use crate::fault::Fault;
 use crate::fields::Fields;
+use crate::kind::{Date, Number, Offset, Pattern};
 use crate::line::{Line, Terms};
 use crate::mark::Mark;
-use crate::settling::{settle_date, settle_offset, settle_pattern};
+use crate::settling::settle;
+use calendar::Convention;
+use schedules::Stub;
 
 fn read_pattern(fields: &mut Fields) -> Result<Line, Fault>
-    ensures { result ≡ body Pattern fields.old }
+    ensures { result ≡ body Mark.Pattern fields.old }
 {
-    let mask = fields.pattern()?;
+    let mask = fields.next_field::<Pattern>()?;
     fields.end()?;
-    let mask = settle_pattern(mask)?;
+    let mask = settle::<Pattern>(mask)?;
     Ok(Line::Pattern(mask))
 }
 
 fn read_closed_day(fields: &mut Fields) -> Result<Line, Fault>
-    ensures { result ≡ body ClosedDay fields.old }
+    ensures { result ≡ body Mark.ClosedDay fields.old }
 {
-    let day = fields.date()?;
+    let day = fields.next_field::<Date>()?;
     fields.end()?;
-    let day = settle_date(day)?;
+    let day = settle::<Date>(day)?;
     Ok(Line::ClosedDay(day))
 }
 
 fn read_offset(fields: &mut Fields) -> Result<Line, Fault>
-    ensures { result ≡ body Offset fields.old }
+    ensures { result ≡ body Mark.Offset fields.old }
 {
-    let offset = fields.offset()?;
+    let offset = fields.next_field::<Offset>()?;
     fields.end()?;
-    let offset = settle_offset(offset)?;
+    let offset = settle::<Offset>(offset)?;
     Ok(Line::Offset(offset))
 }
 
 fn read_deal(fields: &mut Fields) -> Result<Line, Fault>
-    ensures { result ≡ body Deal fields.old }
+    ensures { result ≡ body Mark.Deal fields.old }
 {
-    let start = fields.date()?;
-    let end = fields.date()?;
-    let months = fields.number()?;
-    let stub = fields.stub()?;
-    let convention = fields.convention()?;
-    let basis = fields.basis()?;
-    let rate = fields.number()?;
+    let start = fields.next_field::<Date>()?;
+    let end = fields.next_field::<Date>()?;
+    let months = fields.next_field::<Number>()?;
+    let stub = fields.next_field::<Stub>()?;
+    let convention = fields.next_field::<Convention>()?;
+    let basis = fields.next_field::<Basis>()?;
+    let rate = fields.next_field::<Number>()?;
     fields.end()?;
-    let start = settle_date(start)?;
-    let end = settle_date(end)?;
+    let start = settle::<Date>(start)?;
+    let end = settle::<Date>(end)?;
     Ok(Line::Deal(Terms {
         start,
         end,
@@ -61,52 +64,52 @@ fn read_deal(fields: &mut Fields) -> Result<Line, Fault>
 }
 
 fn read_holding(fields: &mut Fields) -> Result<Line, Fault>
-    ensures { result ≡ body Holding fields.old }
+    ensures { result ≡ body Mark.Holding fields.old }
 {
-    let holding = fields.number()?;
+    let holding = fields.next_field::<Number>()?;
     fields.end()?;
     Ok(Line::Holding(holding))
 }
 
 fn read_advance(fields: &mut Fields) -> Result<Line, Fault>
-    ensures { result ≡ body Advance fields.old }
+    ensures { result ≡ body Mark.Advance fields.old }
 {
-    let day = fields.date()?;
+    let day = fields.next_field::<Date>()?;
     fields.end()?;
-    let day = settle_date(day)?;
+    let day = settle::<Date>(day)?;
     Ok(Line::Advance(day))
 }
 
 fn read_transfer(fields: &mut Fields) -> Result<Line, Fault>
-    ensures { result ≡ body Transfer fields.old }
+    ensures { result ≡ body Mark.Transfer fields.old }
 {
-    let from = fields.number()?;
-    let to = fields.number()?;
-    let amount = fields.number()?;
+    let from = fields.next_field::<Number>()?;
+    let to = fields.next_field::<Number>()?;
+    let amount = fields.next_field::<Number>()?;
     fields.end()?;
     Ok(Line::Transfer { from, to, amount })
 }
 
 fn read_redemption(fields: &mut Fields) -> Result<Line, Fault>
-    ensures { result ≡ body Redemption fields.old }
+    ensures { result ≡ body Mark.Redemption fields.old }
 {
-    let holder = fields.number()?;
-    let amount = fields.number()?;
+    let holder = fields.next_field::<Number>()?;
+    let amount = fields.next_field::<Number>()?;
     fields.end()?;
     Ok(Line::Redemption { holder, amount })
 }
 
 fn read_posting(fields: &mut Fields) -> Result<Line, Fault>
-    ensures { result ≡ body Posting fields.old }
+    ensures { result ≡ body Mark.Posting fields.old }
 {
     fields.end()?;
     Ok(Line::Posting)
 }
 
 fn read_payment(fields: &mut Fields) -> Result<Line, Fault>
-    ensures { result ≡ body Payment fields.old }
+    ensures { result ≡ body Mark.Payment fields.old }
 {
-    let holder = fields.number()?;
+    let holder = fields.next_field::<Number>()?;
     fields.end()?;
     Ok(Line::Payment(holder))
 }

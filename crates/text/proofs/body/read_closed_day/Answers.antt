@@ -13,20 +13,20 @@ pub returns-in_err-end : goal.returns-in_err-end
 returns-in_err-end c =
     handed_on c.from_residual-in_err-end.result _ c.from_residual-in_err-end.ensures.1
     ∙ sym
-    (taken date _ c.args.fields.now c.date.new.self c.in_ok-day.day _ c.in_ok-day.ensures.read c.in_ok-day.ensures.same_line
-    ∙ not_ended c.date.new.self _ _ c.in_err-end.ensures)
+    (taken date _ c.args.fields.now c.next_field.new.self c.in_ok-day.day _ c.in_ok-day.ensures.read c.in_ok-day.ensures.same_line
+    ∙ not_ended c.next_field.new.self _ _ c.in_err-end.ensures)
 
 pub returns-in_err-day-2 : goal.returns-in_err-day-2
 returns-in_err-day-2 c =
     handed_on c.from_residual-in_err-day-2.result _ c.from_residual-in_err-day-2.ensures.1
     ∙ sym
-    (taken date _ c.args.fields.now c.date.new.self c.in_ok-day.day _ c.in_ok-day.ensures.read c.in_ok-day.ensures.same_line
-    ∙ ended c.date.new.self _ c.in_ok-end.ensures
+    (taken date _ c.args.fields.now c.next_field.new.self c.in_ok-day.day _ c.in_ok-day.ensures.read c.in_ok-day.ensures.same_line
+    ∙ ended c.next_field.new.self _ c.in_ok-end.ensures
     ∙ rw (← c.in_err-day-2.ensures) refl)
 
 pub returns : goal.returns
 returns c =
     sym
-    (taken date _ c.args.fields.now c.date.new.self c.in_ok-day.day _ c.in_ok-day.ensures.read c.in_ok-day.ensures.same_line
-    ∙ ended c.date.new.self _ c.in_ok-end.ensures
+    (taken date _ c.args.fields.now c.next_field.new.self c.in_ok-day.day _ c.in_ok-day.ensures.read c.in_ok-day.ensures.same_line
+    ∙ ended c.next_field.new.self _ c.in_ok-end.ensures
     ∙ rw (← c.in_ok-day-2.ensures) refl)

@@ -13,11 +13,11 @@ pub returns-in_err-end : goal.returns-in_err-end
 returns-in_err-end c =
     handed_on c.from_residual-in_err-end.result _ c.from_residual-in_err-end.ensures.1
     ∙ sym
-    (taken number _ c.args.fields.now c.number.new.self c.in_ok-holding.holding _ c.in_ok-holding.ensures.read c.in_ok-holding.ensures.same_line
-    ∙ not_ended c.number.new.self _ _ c.in_err-end.ensures)
+    (taken number _ c.args.fields.now c.next_field.new.self c.in_ok-holding.holding _ c.in_ok-holding.ensures.read c.in_ok-holding.ensures.same_line
+    ∙ not_ended c.next_field.new.self _ _ c.in_err-end.ensures)
 
 pub returns : goal.returns
 returns c =
     sym
-    (taken number _ c.args.fields.now c.number.new.self c.in_ok-holding.holding _ c.in_ok-holding.ensures.read c.in_ok-holding.ensures.same_line
-    ∙ ended c.number.new.self _ c.in_ok-end.ensures)
+    (taken number _ c.args.fields.now c.next_field.new.self c.in_ok-holding.holding _ c.in_ok-holding.ensures.read c.in_ok-holding.ensures.same_line
+    ∙ ended c.next_field.new.self _ c.in_ok-end.ensures)

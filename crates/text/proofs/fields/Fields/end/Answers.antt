@@ -6,4 +6,4 @@ use Rattle.text.proofs.fields.Fields.end.Goals as goal
 pub returns : goal.returns
 returns c =
     let fields = c.args.self.now in
-    sym (one_left fields.line.now fields.from (ending fields) c.if-self.false)
+    rw (c.refuses.ensures, c.place.ensures) (sym (one_left fields.line.now fields.from (ending fields) c.if-self.false))

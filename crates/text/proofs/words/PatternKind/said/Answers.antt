@@ -3,8 +3,8 @@ use Rattle.std.specs.Int.{IsInRange}
 use Rattle.std.proofs.lemmas.List.{at_drop_all}
 use Rattle.text.specs.Words.{bits_from}
 use Rattle.text.proofs.Digits.{bits_more, bits_stop, bit_test, no_bit_test, bits_grown, below_seven, pattern_by_bits}
-use Rattle.text.proofs.words.pattern_word.Goals as goal
-use Rattle.text.proofs.words.pattern_word.Goals.{else-byte-ne48-via-then-byte-ne48+else-byte-ne49, else-byte-ne48-via-else-byte-ne48}
+use Rattle.text.proofs.words.PatternKind.said.Goals as goal
+use Rattle.text.proofs.words.PatternKind.said.Goals.{else-byte-ne48-via-then-byte-ne48+else-byte-ne49, else-byte-ne48-via-else-byte-ne48}
 
 pub loop-byte-init : goal.loop-byte-init
 loop-byte-init c = (refl, lit< tt)

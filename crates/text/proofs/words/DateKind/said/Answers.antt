@@ -1,8 +1,8 @@
 use Rattle.std.proofs.Common.{Some, ap, ◌∙◌, inl, inr}
 use Rattle.text.specs.Words.{digits_from}
 use Rattle.text.proofs.Dated.{day_found, date_by_parts, wrong_length, no_hyphen, last_part}
-use Rattle.text.proofs.words.date_word.Goals as goal
-use Rattle.text.proofs.words.date_word.Goals.{then-word-ne45-via-then-word-ne45, then-word-ne45-via-else-word-ne45+then-word-ne45-2}
+use Rattle.text.proofs.words.DateKind.said.Goals as goal
+use Rattle.text.proofs.words.DateKind.said.Goals.{then-word-ne45-via-then-word-ne45, then-word-ne45-via-else-word-ne45+then-word-ne45-2}
 
 pub returns-then-word-ne10 : goal.returns-then-word-ne10
 returns-then-word-ne10 c = wrong_length c.args.word.now c.if-word-ne10.true

@@ -1,6 +1,6 @@
 use Rattle.std.proofs.Common.{◌≡◌, ◌^◌, ◌<◌, drop}
 use Rattle.text.specs.Words.{bits_from}
-use Rattle.text.proofs.words.pattern_word.Given as goal
+use Rattle.text.proofs.words.PatternKind.said.Given as goal
 
 abbrev pub invariant-loop-byte : goal.invariant-loop-byte
 invariant-loop-byte l =
