@@ -50,8 +50,8 @@ day_found y m d (Some n) h =
 -- three parts of digits, between two hyphens
 pub date_by_parts :
     (word : List ℕ) (y m d : ℕ) → length word ≡ 10 → get_or word 4 0 ≡ 45 → get_or word 7 0 ≡ 45 →
-    Some y ≡ digits_from 0 (year_part word) → Some m ≡ digits_from 0 (month_part word) →
-    Some d ≡ digits_from 0 (day_part word) → Some (day_said y m d) ≡ date_said word
+    Some y ≡ digits_from 10 0 (year_part word) → Some m ≡ digits_from 10 0 (month_part word) →
+    Some d ≡ digits_from 10 0 (day_part word) → Some (day_said y m d) ≡ date_said word
 date_by_parts word y m d ten four seven ys ms ds =
     let a = some_tells (all_ascii_digits (year_part word)) y (read_on 0 (year_part word)) ys in
     let b = some_tells (all_ascii_digits (month_part word)) m (read_on 0 (month_part word)) ms in

@@ -1,14 +1,14 @@
 -- The words that are read as values are the spellings of these values, and these spellings are read as them.
 -- Assumes nothing: the laws of the kinds of fields are an argument.
 use Rattle.std.proofs.Common.{◌≡◌, ℕ, ◌+◌, List, [], ◌∷◌, ◌++◌, length, Ok, sym, refl, ap, ◌∙◌, subst, ap₂, append-nil, arith}
-use Rattle.text.specs.Cuts.{space, line_end, Word, words}
+use Rattle.text.specs.Cuts.{space, line_end, Word, words, Without}
 use Rattle.text.specs.Fields.{placed, Each, Ending, fields, settle_each}
 use Rattle.text.specs.KindLaws.{Unbroken, KindLaw}
 use Rattle.text.specs.Kinds.{Kind, Said, Value, settled}
 use Rattle.text.specs.Laws.{InRange, InPlace}
 use Rattle.text.specs.Spelled.{spelled, spelled_each}
 use Rattle.text.proofs.FieldSteps.{never_both, first_read, first_settled}
-use Rattle.text.proofs.LineCuts.{Without, without_from, without_append}
+use Rattle.text.proofs.LineCuts.{without_from, without_append}
 use Rattle.text.proofs.WordCuts.{word_at, joined_words, Placed, words_last, words_first}
 
 -- the words of the values from a column on

@@ -4,7 +4,7 @@ use Rattle.std.proofs.Common.{◌≡◌, ℕ, ◌+◌, ◌<◌, List, [], ◌∷
 use Rattle.text.specs.declared.fault.Fault.{Fault}
 use Rattle.text.specs.declared.line.Line.{Line}
 use Rattle.text.specs.declared.standing.Standing.{Standing}
-use Rattle.text.specs.Cuts.{line_end}
+use Rattle.text.specs.Cuts.{line_end, Without}
 use Rattle.text.specs.Fields.{and_then}
 use Rattle.text.specs.KindLaws.{KindLaw}
 use Rattle.text.specs.Kinds.{Kind}
@@ -15,7 +15,7 @@ use Rattle.text.specs.Meaning.{read_lines}
 use Rattle.text.specs.Spelled.{spelled_line, written}
 use Rattle.text.proofs.FaultPlaces.{line_fault_on}
 use Rattle.text.proofs.FieldSteps.{err_same, never_both}
-use Rattle.text.proofs.LineCuts.{Without, cut_once, never_holds, joined_lines, AllWithout}
+use Rattle.text.proofs.LineCuts.{cut_once, never_holds, joined_lines, AllWithout}
 use Rattle.text.proofs.LineLaws.{ReadAs, line_bytes, spelled_then, line_read, line_stands, line_without_line_end}
 
 -- no line that is good there begins what is left

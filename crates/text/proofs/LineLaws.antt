@@ -6,7 +6,7 @@ use Rattle.text.specs.declared.fault.Fault.{Fault}
 use Rattle.text.specs.declared.line.Line.{Line}
 use Rattle.text.specs.declared.mark.Mark.{Mark}
 use Rattle.text.specs.declared.standing.Standing.{Standing}
-use Rattle.text.specs.Cuts.{line_end, Word, words}
+use Rattle.text.specs.Cuts.{line_end, Word, words, Without}
 use Rattle.text.specs.Fields.{Each, Ending, fields, settle_each}
 use Rattle.text.specs.KindLaws.{KindLaw}
 use Rattle.text.specs.Kinds.{Kind, Value}
@@ -16,7 +16,7 @@ use Rattle.text.specs.Marks.{spelled_mark, mark_of, allowed, full}
 use Rattle.text.specs.Spelled.{spelled_each, values, spelled_line}
 use Rattle.text.proofs.FieldSteps.{ok_same, never_both, then_ok}
 use Rattle.text.proofs.FieldWords.{words_each, read_are_spelled, words_of_each, spelled_are_read, each_without_line_end}
-use Rattle.text.proofs.LineCuts.{Without, without_append}
+use Rattle.text.proofs.LineCuts.{without_append}
 use Rattle.text.proofs.MarkWords.{mark_of_spelled, mark_without_space, mark_without_line_end, spelled_from_mark_of, line_from_values, of_line_from}
 use Rattle.text.proofs.WordCuts.{Placed, WordsOf, words_of}
 

@@ -6,13 +6,12 @@ use Rattle.text.specs.declared.line.Line.{Line}
 use Rattle.text.specs.declared.line.Line.TheVariants as line
 use Rattle.text.specs.declared.mark.Mark.{Mark}
 use Rattle.text.specs.declared.mark.Mark.TheVariants.{Pattern, ClosedDay, Offset, Deal, Holding, Advance, Transfer, Redemption, Posting, Payment}
-use Rattle.text.specs.Cuts.{space, line_end}
+use Rattle.text.specs.Cuts.{space, line_end, Without}
 use Rattle.text.specs.Fields.{Each}
 use Rattle.text.specs.Kinds.{Value}
 use Rattle.text.specs.Lines.{format, line_from, mark_from}
 use Rattle.text.specs.Marks.{spelled_mark, are, mark_of, mark_of_two}
 use Rattle.text.specs.Spelled.{values}
-use Rattle.text.proofs.LineCuts.{Without}
 
 pub mark_of_spelled : (mark : Mark) → mark_of (spelled_mark mark) ≡ Some mark
 mark_of_spelled Pattern = refl

@@ -17,17 +17,15 @@ fn read_mark(fields: &mut Fields) -> Option<Mark>
     ensures taken { MarkTaken (left fields.old) result (left fields.new) }
     ensures same_line { ending fields.new ≡ ending fields.old }
 {
-    match fields.next_word() {
-        Ok(word) => Mark::of_word(word.value),
-        Err(_) => None,
-    }
+    let word = fields.next_word().ok()?;
+    Mark::of_word(word.value)
 }
 
 // What stands behind the mark is judged before the room for one more such line.
 fn read_marked(standing: Standing, mark: Mark, fields: &mut Fields) -> Result<Line, Fault>
     ensures { result ≡ body_of standing mark (ending fields.old) (left fields.old) }
 {
-    let start = Place::of_line(fields.number);
+    let start = Place::of_line(fields.place.line);
     let line = read_body(mark, fields)?;
     if standing.is_full(mark) {
         return Err(start.refuses(Refusal::TooMany));

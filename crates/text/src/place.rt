@@ -1,5 +1,5 @@
 // Where a line or a word begins.
-ghost use Rattle.std.specs.Prelude.{◌≡◌};
+ghost use Rattle.std.specs.Prelude.{◌≡◌, ◌+◌, ◌^◌, ◌<◌};
 ghost use Rattle.text.specs.Fields.{fault, placed};
 
 use crate::at::At;
@@ -19,6 +19,17 @@ impl Place {
         ensures { result ≡ record { line = line; column = 1 } }
     {
         Place { line, column: 1 }
+    }
+
+    // So many bytes behind it on its line.
+    pub(crate) fn further(self, bytes: usize) -> Place
+        requires { self.column + bytes < 2 ^ 32 }
+        ensures { result ≡ record { line = self.line; column = self.column + bytes } }
+    {
+        Place {
+            line: self.line,
+            column: self.column + bytes as u32,
+        }
     }
 
     pub(crate) fn holds<T>(self, value: T) -> At<T>

@@ -28,6 +28,13 @@ pub(crate) enum Standing {
 }
 
 impl Standing {
+    // Where the first line of a text stands.
+    pub(crate) const START: Standing = Standing::InCalendar {
+        has_pattern: false,
+        dates: 0,
+        offsets: 0,
+    };
+
     // Whether a line with this mark may stand here.
     pub(crate) fn allows(self, mark: Mark) -> bool
         ensures { result ≡ allowed self mark }

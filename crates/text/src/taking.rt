@@ -1,5 +1,5 @@
 // The fields of a line, one after another.
-ghost use Rattle.std.specs.Prelude.{◌≡◌, ◌+◌, ◌≤◌, length};
+ghost use Rattle.std.specs.Prelude.{◌≡◌, ◌+◌, ◌^◌, ◌<◌, ◌≤◌, length};
 ghost use Rattle.text.specs.Cuts.{words};
 ghost use Rattle.text.specs.Fields.{none_left};
 ghost use Rattle.text.specs.Left.{left, ended_at, ending, Taken, ReadsField};
@@ -7,7 +7,7 @@ ghost use Rattle.text.specs.Left.{left, ended_at, ending, Taken, ReadsField};
 use crate::at::At;
 use crate::fault::Fault;
 use crate::fields::Fields;
-use crate::finding::find_from;
+use crate::finding::split_once;
 use crate::kind::Kind;
 use crate::place::Place;
 use days::Refusal;
@@ -19,20 +19,8 @@ impl<'a> Fields<'a> {
         ensures place { ending result ≡ ended_at number line.now }
     {
         Fields {
-            line,
-            number,
-            from: 0,
-        }
-    }
-
-    // Where the byte at an index stands, or the end of the line.
-    fn place(&self, index: usize) -> Place
-        requires { index ≤ length self.now.line.now }
-        ensures { result ≡ record { line = self.now.number; column = index + 1 } }
-    {
-        Place {
-            line: self.number,
-            column: (index + 1) as u32,
+            place: Place::of_line(number),
+            rest: Some(line),
         }
     }
 
@@ -40,14 +28,28 @@ impl<'a> Fields<'a> {
         ensures taken { Taken (ending self.old) (left self.old) result (left self.new) }
         ensures same_line { ending self.new ≡ ending self.old }
     {
-        let from = self.from;
-        let length = self.line.len();
-        if from > length {
-            return Err(self.place(length).refuses(Refusal::BadField));
-        }
-        let end = find_from(self.line, from, b' ');
-        self.from = end + 1;
-        Ok(self.place(from).holds(&self.line[from..end]))
+        let place = self.place;
+        let Some(rest) = self.rest else {
+            return Err(place.refuses(Refusal::BadField));
+        };
+        let (word, later) = match split_once(rest, b' ') {
+            Some((word, later)) => (
+                word,
+                Fields {
+                    place: place.further(word.len() + 1),
+                    rest: Some(later),
+                },
+            ),
+            None => (
+                rest,
+                Fields {
+                    place: place.further(rest.len()),
+                    rest: None,
+                },
+            ),
+        };
+        *self = later;
+        Ok(place.holds(word))
     }
 
     // What the next word says; a word that says nothing is a bad field.
@@ -67,9 +69,9 @@ impl<'a> Fields<'a> {
     pub(crate) fn end(&self) -> Result<(), Fault>
         ensures { result ≡ none_left (ending self.now) (left self.now) }
     {
-        if self.from > self.line.len() {
-            return Ok(());
+        match self.rest {
+            Some(_) => Err(self.place.refuses(Refusal::BadField)),
+            None => Ok(()),
         }
-        Err(self.place(self.from).refuses(Refusal::BadField))
     }
 }

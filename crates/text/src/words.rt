@@ -1,7 +1,7 @@
 // What a word says in the place of each kind of field. A word that is badly written says nothing.
 ghost use Rattle.std.specs.Prelude.{◌≡◌, ◌^◌, ◌<◌, ◌≤◌, length, IfSome};
 ghost use Rattle.text.specs.Kinds.{said, date, number, pattern, offset, stub, convention, basis, number_said};
-ghost use Rattle.text.specs.Words.{digits_from, bits_from, signed_said};
+ghost use Rattle.text.specs.Words.{digits_from, signed_said};
 
 use crate::basis::Basis;
 use crate::kind::{Date, Kind, Number, Offset, Pattern};
@@ -11,18 +11,18 @@ use schedules::Stub;
 
 const MOST_DIGITS: usize = 11;
 
-// The number that digits write; absent where a byte is none.
-fn digits_value(digits: &[u8]) -> Option<u64>
-    requires { length digits.now ≤ 11 }
-    ensures value { result ≡ digits_from 0 digits.now }
-    ensures small { IfSome result (λ n. n < 10 ^ length digits.now) }
+// The number that digits of a radix write; absent where a byte is none.
+fn digits_value(radix: u32, digits: &[u8]) -> Option<u64>
+    requires two { 2 ≤ radix }
+    requires ten { radix ≤ 10 }
+    requires few { length digits.now ≤ 11 }
+    ensures value { result ≡ digits_from radix 0 digits.now }
+    ensures small { IfSome result (λ n. n < radix ^ length digits.now) }
 {
     let mut value = 0;
     for byte in digits {
-        if !byte.is_ascii_digit() {
-            return None;
-        }
-        value = 10 * value + (*byte - b'0') as u64;
+        let digit = char::from(*byte).to_digit(radix)?;
+        value = u64::from(radix) * value + u64::from(digit);
     }
     Some(value)
 }
@@ -31,13 +31,11 @@ fn number_word(word: &[u8]) -> Option<u64>
     ensures value { result ≡ number_said word.now }
     ensures small { IfSome result (λ n. n < 10 ^ 11) }
 {
-    if word.len() < 1 || word.len() > MOST_DIGITS {
-        return None;
+    match word {
+        [] | [b'0', _, ..] => None,
+        _ if word.len() > MOST_DIGITS => None,
+        _ => digits_value(10, word),
     }
-    if word.len() > 1 && word[0] == b'0' {
-        return None;
-    }
-    digits_value(word)
 }
 
 impl Kind for Number {
@@ -63,9 +61,9 @@ impl Kind for Date {
         if word[4] != b'-' || word[7] != b'-' {
             return None;
         }
-        let year = digits_value(&word[0..4])?;
-        let month = digits_value(&word[5..7])?;
-        let day = digits_value(&word[8..10])?;
+        let year = digits_value(10, &word[0..4])?;
+        let month = digits_value(10, &word[5..7])?;
+        let day = digits_value(10, &word[8..10])?;
         Some(day_number(year as u32, month as u32, day as u32))
     }
 }
@@ -80,14 +78,8 @@ impl Kind for Pattern {
         if word.len() != 7 {
             return None;
         }
-        let mut mask = 0;
-        for byte in word {
-            if *byte != b'0' && *byte != b'1' {
-                return None;
-            }
-            mask = 2 * mask + (*byte - b'0');
-        }
-        Some(mask)
+        let mask = digits_value(2, word)?;
+        Some(mask as u8)
     }
 }
 
@@ -147,6 +139,7 @@ impl Kind for Basis {
 
     ghost says = { said basis };
 
+    #[tactic(auto, using(crate::proofs::BasisNames::no_name))]
     fn said(word: &[u8]) -> Option<Basis> {
         match word {
             b"A360" => Some(Basis::Actual360),
