@@ -49,17 +49,6 @@ behind_more :
 behind_more head line (Ok lines) = ap Ok (sym (append_assoc head (line ∷ []) lines))
 behind_more head line (Err why) = refl
 
-pub begun : (text : List ℕ) (table : List Line) → line_count text ≤ length table → Progress text table start 0 text table
-begun text table room =
-    record {
-      fewer = omega arith;
-      counted = (omega arith, omega arith);
-      room = omega arith;
-      behind = refl;
-      fronts = refl;
-      means = behind_none (meant start 1 (cut_lines text));
-    }
-
 short_meaning : (text : List ℕ) → length text ≤ longest_text → meaning text ≡ meant start 1 (cut_lines text)
 unfolding meaning
 short_meaning text short = rw (le-ltb longest_text (length text) short) refl
