@@ -39,10 +39,6 @@ pub record Progress (text : List ℕ) (table : List Line) (standing : Standing) 
   pub means :
       meant start 1 (cut_lines text) ≡ behind_these (take count lines) (meant standing (count + 1) (cut_lines rest))
 
-behind_none : (r : Result (List Line) Fault) → r ≡ behind_these [] r
-behind_none (Ok lines) = refl
-behind_none (Err why) = refl
-
 behind_more :
     (head : List Line) (line : Line) (r : Result (List Line) Fault) →
     behind_these head (and_then r (λ lines. Ok (line ∷ lines))) ≡ behind_these (head ++ line ∷ []) r

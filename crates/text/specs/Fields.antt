@@ -45,6 +45,11 @@ abbrev pub and_then : {A B : Type 0} → Result A Fault → (A → Result B Faul
 and_then (Ok a) f = f a
 and_then (Err e) f = Err e
 
+-- the only field, and no word more
+abbrev pub alone : {T : Type 0} → (List ℕ → Option T) → Ending → List Word → Result (At T) Fault
+alone says end words =
+    and_then (field_by says end words) (λ read. and_then (none_left end read.1) (λ none. Ok read.0))
+
 -- the words of a line behind its mark
 abbrev pub fields : (kinds : List Kind) → Ending → List Word → Result (Each Said kinds) Fault
 fields [] end words = none_left end words

@@ -1,42 +1,35 @@
 // What stands behind each mark: its fields, and no word more. All fields are read before the first value is judged.
 ghost use Rattle.std.specs.Prelude.{◌≡◌};
 ghost use Rattle.text.specs.Bodies.{body};
+ghost use Rattle.text.specs.Fields.{and_then, alone, settle_by};
+ghost use Rattle.text.specs.Left.{left, ending};
 
+use crate::at::At;
 use crate::basis::Basis;
 use crate::fault::Fault;
 use crate::fields::Fields;
-use crate::kind::{Date, Number, Offset, Pattern};
+use crate::kind::{Date, Judged, Kind, Number, Offset, Pattern};
 use crate::line::{Line, Terms};
 use crate::mark::Mark;
 use crate::settling::settle;
 use calendar::Convention;
 use schedules::Stub;
 
-fn read_pattern(fields: &mut Fields) -> Result<Line, Fault>
-    ensures { result ≡ body Mark.Pattern fields.old }
+// What the only field of a line says.
+fn lone_field<K: Kind>(fields: &mut Fields) -> Result<At<K::Said>, Fault>
+    ensures { result ≡ alone K.says (ending fields.old) (left fields.old) }
 {
-    let mask = fields.next_field::<Pattern>()?;
+    let field = fields.next_field::<K>()?;
     fields.end()?;
-    let mask = settle::<Pattern>(mask)?;
-    Ok(Line::Pattern(mask))
+    Ok(field)
 }
 
-fn read_closed_day(fields: &mut Fields) -> Result<Line, Fault>
-    ensures { result ≡ body Mark.ClosedDay fields.old }
+// The value of the only field of a line.
+fn lone_value<K: Judged>(fields: &mut Fields) -> Result<At<K::Value>, Fault>
+    ensures { result ≡ and_then (alone K.says (ending fields.old) (left fields.old)) (settle_by K.settles) }
 {
-    let day = fields.next_field::<Date>()?;
-    fields.end()?;
-    let day = settle::<Date>(day)?;
-    Ok(Line::ClosedDay(day))
-}
-
-fn read_offset(fields: &mut Fields) -> Result<Line, Fault>
-    ensures { result ≡ body Mark.Offset fields.old }
-{
-    let offset = fields.next_field::<Offset>()?;
-    fields.end()?;
-    let offset = settle::<Offset>(offset)?;
-    Ok(Line::Offset(offset))
+    let field = lone_field::<K>(fields)?;
+    settle::<K>(field)
 }
 
 fn read_deal(fields: &mut Fields) -> Result<Line, Fault>
@@ -61,23 +54,6 @@ fn read_deal(fields: &mut Fields) -> Result<Line, Fault>
         basis,
         rate,
     }))
-}
-
-fn read_holding(fields: &mut Fields) -> Result<Line, Fault>
-    ensures { result ≡ body Mark.Holding fields.old }
-{
-    let holding = fields.next_field::<Number>()?;
-    fields.end()?;
-    Ok(Line::Holding(holding))
-}
-
-fn read_advance(fields: &mut Fields) -> Result<Line, Fault>
-    ensures { result ≡ body Mark.Advance fields.old }
-{
-    let day = fields.next_field::<Date>()?;
-    fields.end()?;
-    let day = settle::<Date>(day)?;
-    Ok(Line::Advance(day))
 }
 
 fn read_transfer(fields: &mut Fields) -> Result<Line, Fault>
@@ -106,27 +82,19 @@ fn read_posting(fields: &mut Fields) -> Result<Line, Fault>
     Ok(Line::Posting)
 }
 
-fn read_payment(fields: &mut Fields) -> Result<Line, Fault>
-    ensures { result ≡ body Mark.Payment fields.old }
-{
-    let holder = fields.next_field::<Number>()?;
-    fields.end()?;
-    Ok(Line::Payment(holder))
-}
-
 pub(crate) fn read_body(mark: Mark, fields: &mut Fields) -> Result<Line, Fault>
     ensures { result ≡ body mark fields.old }
 {
     match mark {
-        Mark::Pattern => read_pattern(fields),
-        Mark::ClosedDay => read_closed_day(fields),
-        Mark::Offset => read_offset(fields),
+        Mark::Pattern => lone_value::<Pattern>(fields).map(Line::Pattern),
+        Mark::ClosedDay => lone_value::<Date>(fields).map(Line::ClosedDay),
+        Mark::Offset => lone_value::<Offset>(fields).map(Line::Offset),
         Mark::Deal => read_deal(fields),
-        Mark::Holding => read_holding(fields),
-        Mark::Advance => read_advance(fields),
+        Mark::Holding => lone_field::<Number>(fields).map(Line::Holding),
+        Mark::Advance => lone_value::<Date>(fields).map(Line::Advance),
         Mark::Transfer => read_transfer(fields),
         Mark::Redemption => read_redemption(fields),
         Mark::Posting => read_posting(fields),
-        Mark::Payment => read_payment(fields),
+        Mark::Payment => lone_field::<Number>(fields).map(Line::Payment),
     }
 }
