@@ -10,13 +10,13 @@ use Rattle.text.specs.Fields.{fault, placed, Each, Ending, read_word, and_then, 
 use Rattle.text.specs.Kinds.{Kind, Said, Value, said, settled}
 use Rattle.text.specs.Lines.{format, unless_full, body_of, known, marked, line_of}
 use Rattle.text.specs.Marks.{mark_of, allowed, full}
-use Rattle.text.proofs.FieldSteps.{err_same, never_both, first_read}
+use Rattle.text.proofs.FieldSteps.{err_same, first_read}
 
 abbrev pub FaultsOn : {A : Type 0} → ℕ → Result A Fault → Type 0
 FaultsOn line r = (found : Fault) → r ≡ Err found → found.line ≡ line
 
 none_on : {A : Type 0} (line : ℕ) (a : A) → FaultsOn line (Ok a)
-none_on line a found e = absurd (never_both a found e)
+none_on line a found e = cc
 
 one_on : {A : Type 0} (refusal : Refusal) (line column : ℕ) → FaultsOn {A = A} line (Err (fault refusal line column))
 one_on refusal line column found e = sym (ap (λ (x : Fault). x.line) (err_same (fault refusal line column) found e))
@@ -36,7 +36,7 @@ read_on_line :
     (kinds : List Kind) (end : Ending) (later : List Word) (read : Each Said kinds) → fields kinds end later ≡ Ok read →
     OnLine end.line kinds read
 read_on_line [] end later read e = tt
-read_on_line (kind ∷ kinds) end [] read e = absurd (never_both _ _ (sym e))
+read_on_line (kind ∷ kinds) end [] read e = cc
 read_on_line (kind ∷ kinds) end (word ∷ later) read e =
     let first = first_read kind kinds end word later read e in
     (ap (λ x. x.line) first.first_is, read_on_line kinds end later read.1 first.others_are)

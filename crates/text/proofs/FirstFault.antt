@@ -99,7 +99,7 @@ module _ (laws : (kind : Kind) → KindLaw kind) where
     where
       still_refused :
           (r : Result (List Line) Fault) → and_then r (λ ls. Ok (l ∷ ls)) ≡ Err found → r ≡ Err found
-      still_refused (Ok ls) e₂ = absurd (never_both _ _ e₂)
+      still_refused (Ok ls) e₂ = cc
       still_refused (Err other) e₂ = ap Err (err_same other found e₂)
 
   pub lines_fault :
@@ -107,7 +107,7 @@ module _ (laws : (kind : Kind) → KindLaw kind) where
       Without line_end left → read_lines standing n lines left ≡ Err found →
       FaultyFrom standing n (joined_lines lines left) found.line
   unfolding read_lines
-  lines_fault [] standing n [] found clean left_clean e = absurd (never_both _ _ e)
+  lines_fault [] standing n [] found clean left_clean e = cc
   lines_fault [] standing n (b ∷ bs) found clean left_clean e =
       faulty_here standing n (b ∷ bs) found.line (sym (ap (λ (x : Fault). x.line) (err_same _ found e))) (omega arith)
       (none_begins_unended standing n (b ∷ bs) left_clean)

@@ -45,7 +45,7 @@ behind_more :
 behind_more head line (Ok lines) = ap Ok (sym (append_assoc head (line ∷ []) lines))
 behind_more head line (Err why) = refl
 
-short_meaning : (text : List ℕ) → length text ≤ longest_text → meaning text ≡ meant start 1 (cut_lines text)
+pub short_meaning : (text : List ℕ) → length text ≤ longest_text → meaning text ≡ meant start 1 (cut_lines text)
 unfolding meaning
 short_meaning text short = rw (le-ltb longest_text (length text) short) refl
 

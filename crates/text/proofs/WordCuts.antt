@@ -3,9 +3,7 @@
 use Rattle.std.proofs.Common.{◌≡◌, ℕ, ◌+◌, Bool, true, false, cond, eqb, List, [], ◌∷◌, ◌++◌, length, sym, refl, ap, ◌∙◌, subst, ap₂, arith}
 use Rattle.std.proofs.lemmas.Bool.{eqb-true, ne_eqb}
 use Rattle.text.specs.Cuts.{space, Word, longer, words, Without, Splits}
-
-abbrev pub word_at : ℕ → List ℕ → Word
-word_at column bytes = record { column = column; bytes = bytes }
+use Rattle.text.specs.Left.{word_at}
 
 -- words, each behind a space
 abbrev pub joined_words : List Word → List ℕ

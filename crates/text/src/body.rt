@@ -82,6 +82,7 @@ fn read_posting(fields: &mut Fields) -> Result<Line, Fault>
     Ok(Line::Posting)
 }
 
+// Each mark has fields of its own and makes a line of its own, so this is a match over the marks.
 pub(crate) fn read_body(mark: Mark, fields: &mut Fields) -> Result<Line, Fault>
     ensures { result ≡ body mark fields.old }
 {

@@ -4,6 +4,8 @@ ghost use Rattle.days.specs.declared.refusal.Refusal.{Refusal};
 
 use days::Refusal;
 
+// Four kinds have names of their own and no values. The others are named by the types of what they say.
+
 // A date. What it says is its day's number, or that it is no day of the range.
 pub(crate) struct Date;
 

@@ -20,7 +20,7 @@ pub(crate) enum Mark {
 }
 
 impl Mark {
-    // The mark that a whole word is.
+    // The mark that a whole word is. No `TryFrom`: there is nothing to tell of a word that is none.
     pub(crate) fn of_word(word: &[u8]) -> Option<Mark>
         ensures { result ≡ mark_of word.now }
     {

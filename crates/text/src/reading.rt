@@ -34,6 +34,7 @@ fn fill(text: &[u8], lines: &mut [Line]) -> Result<usize, Fault>
     ensures { Fills text.now lines.old result lines.new }
 {
     let mut standing = Standing::START;
+    // Counted by hand: it is the place in the table, the number of the line and, in the end, the answer.
     let mut count = 0;
     let mut rest = text;
     while let Some((bytes, later)) = split_once(rest, LINE_END) {
@@ -49,7 +50,8 @@ fn fill(text: &[u8], lines: &mut [Line]) -> Result<usize, Fault>
     Ok(count)
 }
 
-// Judges the length of the text and the room in the table, and then reads.
+// Judges the length of the text and the room in the table, and then reads. A function of its own, so that `read` owes
+// the law of texts at one return.
 fn read_within(text: &[u8], lines: &mut [Line]) -> Result<usize, Unread>
     ensures { Reads text.now lines.old result lines.new }
 {

@@ -29,6 +29,7 @@ pub(crate) enum Standing {
     InHoldings { count: u32 },
 }
 
+// Each rule below is a match over where a line stands and its mark, as the format states it.
 impl Standing {
     // Where the first line of a text stands.
     pub(crate) const START: Standing = Standing::InCalendar(CalendarLines {
