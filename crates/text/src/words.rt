@@ -129,7 +129,7 @@ impl Kind for Convention {
 
     fn said(word: &[u8]) -> Option<Convention> {
         match word {
-            [letter] => Convention::from_letter(char::from(*letter)),
+            [letter] => Convention::try_from(char::from(*letter)).ok(),
             _ => None,
         }
     }

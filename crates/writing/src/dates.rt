@@ -4,7 +4,7 @@ ghost use Rattle.days.specs.Calendar.{last_day};
 ghost use Rattle.writing.specs.Spelling.{two, spelled_date};
 
 use crate::draft::Draft;
-use days::date_of;
+use days::Date;
 
 impl Draft {
     // A number below a hundred, with two digits.
@@ -21,13 +21,13 @@ impl Draft {
         ensures inside { day ≤ last_day → self.new ≡ take 128 (self.old ++ spelled_date day) }
         ensures above { last_day < day → self.new ≡ self.old }
     {
-        if let Some((year, month, day_of_month)) = date_of(day) {
+        if let Some(Date { year, month, day }) = Date::of(day) {
             self.two_digits(year / 100);
             self.two_digits(year % 100);
             self.push(b'-');
             self.two_digits(month);
             self.push(b'-');
-            self.two_digits(day_of_month);
+            self.two_digits(day);
         }
     }
 }

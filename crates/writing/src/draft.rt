@@ -1,25 +1,20 @@
-// A line that is being written: the first bytes of a small buffer of its own. In contracts it is the list of these bytes.
+// A line that is being written. In contracts it is the list of its bytes.
+use shortlist::ShortList;
 use std::marker::Model;
 
-// An array with its length beside it: reports use no heap, and callers copy this value.
 #[derive(Clone, Copy)]
 pub struct Draft {
-    pub(crate) bytes: [u8; 128],
-    pub(crate) len: usize,
+    pub(crate) bytes: ShortList<u8, 128>,
 }
 
 impl Model for Draft {
-    ghost use Rattle.std.specs.Prelude.{ℕ, List};
+    ghost use Rattle.std.specs.Prelude.{ℕ, List, ◌≤◌, length};
 
     ghost Value = { List ℕ };
 
-    ghost use Rattle.writing.specs.Drafts.{text_of, InUse, draft_of, draft_again};
+    ghost view = { λ draft. draft.bytes };
 
-    ghost view = { text_of };
+    ghost invariant = { λ draft. length draft.bytes ≤ 128 };
 
-    ghost invariant = { InUse };
-
-    ghost inverse = { draft_of };
-
-    ghost inverse_ok = { draft_again };
+    ghost inverse = { λ bytes. record { bytes = bytes } };
 }

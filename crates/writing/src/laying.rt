@@ -15,11 +15,12 @@ pub fn lay(line: &Draft, out: &mut [u8], at: usize) -> Result<usize, Full>
     ensures laid { Laid (line.now ∷ []) out.old at result out.new }
     ensures longest { (room : ℕ) (lines : List (List ℕ)) → LongestFront room lines (fitting room lines) }
 {
+    let text = line.bytes.as_slice();
     // Behind a place past the end there is no room, and a line of no bytes needs none.
     let start = at.min(out.len());
-    if line.len > out.len() - start {
+    if text.len() > out.len() - start {
         return Err(Full { written: at });
     }
-    out[start..start + line.len].copy_from_slice(&line.bytes[..line.len]);
-    Ok(at + line.len)
+    out[start..start + text.len()].copy_from_slice(text);
+    Ok(at + text.len())
 }

@@ -2,6 +2,7 @@
 ghost use Rattle.std.specs.Prelude.{◌≡◌, [], ◌∷◌, ◌++◌, take};
 
 use crate::draft::Draft;
+use shortlist::ShortList;
 
 impl Draft {
     // An empty line.
@@ -9,25 +10,21 @@ impl Draft {
         ensures { result ≡ [] }
     {
         Draft {
-            bytes: [0; 128],
-            len: 0,
+            bytes: ShortList::new(),
         }
     }
 
     pub fn push(&mut self, byte: u8)
         ensures { self.new ≡ take 128 (self.old ++ (byte ∷ [])) }
     {
-        if self.len < 128 {
-            self.bytes[self.len] = byte;
-            self.len += 1;
-        }
+        let _ = self.bytes.push(byte);
     }
 
     pub fn word(&mut self, bytes: &[u8])
         ensures { self.new ≡ take 128 (self.old ++ bytes.now) }
     {
         // Read for what it promises: a draft is never longer than its buffer.
-        let _ = &self.len;
+        let _ = &self.bytes;
         for byte in bytes {
             self.push(*byte);
         }

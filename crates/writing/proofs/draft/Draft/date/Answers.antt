@@ -13,4 +13,4 @@ returns-in-Some-clause-inside c within =
     let t2 = then text _ _ c.two_digits.ensures c.two_digits-in-Some.ensures in
     let t4 = then text _ _ (then text _ _ t2 c.push.ensures) c.two_digits-in-Some-2.ensures in
     let t6 = then text _ _ (then text _ _ t4 c.push-in-Some.ensures) c.two_digits-in-Some-3.ensures in
-    t6 ∙ ap (λ t. take 128 (text ++ t)) (date_found c.args.day _ _ _ c.in-Some.ensures.value).1
+    t6 ∙ ap (λ t. take 128 (text ++ t)) (date_found c.args.day _ c.in-Some.ensures.value).1

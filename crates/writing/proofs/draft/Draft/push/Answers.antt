@@ -1,10 +1,7 @@
-use Rattle.writing.proofs.Filled.{push_room, push_full}
+use Rattle.writing.proofs.Filled.{pushed}
 use Rattle.writing.proofs.draft.Draft.push.Goals as goal
 
-pub returns-then-self-lt128 : goal.returns-then-self-lt128
-returns-then-self-lt128 c =
-    rw (← c.self.view_is) (push_room c.self.inside c.args.byte c.self.invariant c.if-self-lt128.true)
-
-pub returns-else-self-lt128 : goal.returns-else-self-lt128
-returns-else-self-lt128 c =
-    rw (← c.self.view_is) (push_full c.self.inside c.args.byte c.self.invariant c.if-self-lt128.false)
+pub returns : goal.returns
+returns c =
+    rw (← c.self.view_is)
+    (pushed c.self.inside.bytes c.args.byte c.push.result _ c.self.invariant c.push.ensures.room c.push.ensures.full)

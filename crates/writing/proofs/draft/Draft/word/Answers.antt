@@ -1,11 +1,9 @@
-use Rattle.std.proofs.Common.{append-nil}
 use Rattle.writing.proofs.Cuts.{word_more}
 use Rattle.writing.proofs.Filled.{draft_short}
 use Rattle.writing.proofs.draft.Draft.word.Goals as goal
 
 pub loop-byte-init : goal.loop-byte-init
-loop-byte-init c =
-    rw (append-nil c.args.self.now, ← c.self.view_is) (draft_short c.self.inside c.self.invariant)
+loop-byte-init c = rw (← c.self.view_is) (draft_short c.self.inside.bytes c.self.invariant)
 
 pub loop-byte-preserved : goal.loop-byte-preserved
 loop-byte-preserved c =
