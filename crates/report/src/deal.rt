@@ -16,7 +16,7 @@ use crate::deal_text::DealText;
 use crate::drafts::refused_draft;
 use crate::page::Page;
 use calendar::ClosedDays;
-use counts::{Actual360, Actual365, BondBasis, DayCount, European};
+use counts::{BondBasis, DayCount, European, actual_360, actual_365};
 use register::Register;
 use schedules::{Deal, schedule};
 use text::{Basis, Line, Terms};
@@ -119,8 +119,8 @@ impl DealText<'_> {
         ensures { LaidOn (report_lines (S.ClosedDays.closed set.now) (deal_at self.now.number self.now.terms.now self.now.behind.now)) page.old result page.new }
     {
         match self.terms.basis.value {
-            Basis::Actual360 => self.lay_by(Actual360, set, page),
-            Basis::Actual365 => self.lay_by(Actual365, set, page),
+            Basis::Actual360 => self.lay_by(actual_360(), set, page),
+            Basis::Actual365 => self.lay_by(actual_365(), set, page),
             Basis::BondBasis => self.lay_by(BondBasis, set, page),
             Basis::European => self.lay_by(European, set, page),
         }

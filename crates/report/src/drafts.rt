@@ -2,10 +2,10 @@
 // clauses say nothing of an Err, and a draft never fails.
 ghost use Rattle.std.specs.Prelude.{◌≡◌, ◌≤◌, ◌∷◌, ◌++◌, length, take};
 ghost use Rattle.days.specs.Refusals.{told};
-ghost use Rattle.report.specs.Printed.{field, letter, sc_line, ok_line, no_line, answer_line, st_line, ft_line};
+ghost use Rattle.report.specs.Printed.{field, sc_line, ok_line, no_line, answer_line, st_line, ft_line};
 ghost use Rattle.report.specs.Reports.{seen};
 
-use days::{Layer, Refusal};
+use days::Refusal;
 use register::Row;
 use text::Fault;
 use writing::Draft;
@@ -17,17 +17,6 @@ fn put_field(line: &mut Draft, n: u64)
 {
     line.push(b' ');
     line.number(n);
-}
-
-fn letter_of(layer: Layer) -> u8
-    ensures { result ≡ letter layer }
-{
-    match layer {
-        Layer::Text => b'T',
-        Layer::Calendar => b'C',
-        Layer::Deal => b'D',
-        Layer::Register => b'R',
-    }
 }
 
 // SC index date
@@ -63,7 +52,7 @@ pub(crate) fn refused_draft(refusal: Refusal, number: u32) -> Draft
     line.word(b"NO");
     put_field(&mut line, refusal.number() as u64);
     line.push(b' ');
-    line.push(letter_of(refusal.layer()));
+    line.push(refusal.layer().letter() as u8);
     put_field(&mut line, refusal.place() as u64);
     put_field(&mut line, number as u64);
     line.push(b'\n');

@@ -1,12 +1,13 @@
 // The closed days of a text, gathered from its lines.
-ghost use Rattle.std.specs.Prelude.{◌≡◌, ◌<◌, ◌≤◌, true, length, take, Option, count_ones};
+ghost use Rattle.std.specs.Prelude.{◌≡◌, ◌<◌, ◌≤◌, true, length, Option, count_ones};
 ghost use Rattle.std.specs.Fn.{FnReturnsAt};
 ghost use Rattle.calendar.specs.Kinds.{all_within_sixty};
 ghost use Rattle.text.specs.declared.line.Line.{Line};
 ghost use Rattle.report.specs.Parts.{Part, part, gathered, mask_of, days_of, offsets_of};
 
-use crate::closings::{Closings, MOST_DATES};
+use crate::closings::Closings;
 use calendar::{EasterRule, WeekdayPattern};
+use shortlist::{Blank, ShortList};
 use text::Line;
 
 const MOST_OFFSETS: usize = 8;
@@ -23,51 +24,44 @@ fn mask_of(lines: &[Line]) -> u8
     0
 }
 
-// Copies what is found in the lines into a table; answers how much there is. Reports use no heap, so the table is the
-// caller's, and the place of the next item is counted here, since not every line has one.
-fn gather<T: Copy, F: Fn(&Line) -> Option<T>>(lines: &[Line], table: &mut [T], find: F) -> usize
+// Gathers what is found in the lines, which there is room for.
+fn gather<T: Blank, const N: usize, F: Fn(&Line) -> Option<T>>(
+    lines: &[Line],
+    find: F,
+) -> ShortList<T, N>
     ghost found: { Part → Option T }
     requires callable { F.IsAlwaysCallable find }
     requires finds { (line : Line) (o : Option T) → FnReturnsAt F.Fn find line o → o ≡ found (part line) }
-    requires room { length (gathered found lines.now) ≤ length table.old }
-    ensures within { result ≤ length table.new }
-    ensures copied { take result table.new ≡ gathered found lines.now }
+    requires room { length (gathered found lines.now) ≤ N }
+    ensures { result ≡ gathered found lines.now }
 {
-    let mut count = 0;
+    let mut all = ShortList::new();
     for line in lines {
         if let Some(item) = find(line) {
-            table[count] = item;
-            count += 1;
+            let _ = all.push(item);
         }
     }
-    count
+    all
 }
 
 fn easter_rule(lines: &[Line]) -> EasterRule
     requires few { length (offsets_of lines.now) ≤ 8 }
     requires near { all_within_sixty (offsets_of lines.now) ≡ true }
-    ensures { take result.count result.offsets ≡ offsets_of lines.now }
+    ensures { result ≡ offsets_of lines.now }
 {
-    let mut offsets = [0; MOST_OFFSETS];
-    let count = gather(lines, &mut offsets, |line| match line {
+    let offsets: ShortList<i32, MOST_OFFSETS> = gather(lines, |line| match line {
         Line::Offset(offset) => Some(offset.value),
         _ => None,
     });
-    match EasterRule::new(&offsets[0..count]) {
-        Ok(rule) => rule,
-        Err(_) => unreachable(),
-    }
+    EasterRule::new(offsets.as_slice()).unwrap()
 }
 
 fn weekday_pattern(lines: &[Line]) -> WeekdayPattern
     requires small { mask_of lines.now < 128 }
     requires opens { count_ones (mask_of lines.now) ≤ 6 }
-    ensures { result.mask ≡ mask_of lines.now }
+    ensures { result ≡ mask_of lines.now }
 {
-    match WeekdayPattern::new(mask_of(lines)) {
-        Ok(pattern) => pattern,
-        Err(_) => unreachable(),
-    }
+    WeekdayPattern::new(mask_of(lines)).unwrap()
 }
 
 impl Closings {
@@ -78,20 +72,17 @@ impl Closings {
         requires days { length (days_of lines.now) ≤ 512 }
         requires few { length (offsets_of lines.now) ≤ 8 }
         requires near { all_within_sixty (offsets_of lines.now) ≡ true }
-        ensures mask { result.pattern.mask ≡ mask_of lines.now }
-        ensures days { take result.count result.days ≡ days_of lines.now }
-        ensures offsets { take result.easter.count result.easter.offsets ≡ offsets_of lines.now }
+        ensures mask { result.pattern ≡ mask_of lines.now }
+        ensures days { result.days ≡ days_of lines.now }
+        ensures offsets { result.easter ≡ offsets_of lines.now }
     {
-        let mut days = [0; MOST_DATES];
-        let count = gather(lines, &mut days, |line| match line {
-            Line::ClosedDay(day) => Some(day.value),
-            _ => None,
-        });
         Closings {
             easter: easter_rule(lines),
             pattern: weekday_pattern(lines),
-            days,
-            count,
+            days: gather(lines, |line| match line {
+                Line::ClosedDay(day) => Some(day.value),
+                _ => None,
+            }),
         }
     }
 }

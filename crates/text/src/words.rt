@@ -6,7 +6,6 @@ ghost use Rattle.text.specs.Words.{digits_from, signed_said};
 use crate::basis::Basis;
 use crate::kind::{Date, Kind, Number, Offset, Pattern};
 use calendar::Convention;
-use days::day_number;
 use schedules::Stub;
 
 const MOST_DIGITS: usize = 11;
@@ -65,7 +64,12 @@ impl Kind for Date {
         let year = digits_value(10, &word[0..4])?;
         let month = digits_value(10, &word[5..7])?;
         let day = digits_value(10, &word[8..10])?;
-        Some(day_number(year as u32, month as u32, day as u32))
+        let date = days::Date {
+            year: year as u32,
+            month: month as u32,
+            day: day as u32,
+        };
+        Some(date.number())
     }
 }
 

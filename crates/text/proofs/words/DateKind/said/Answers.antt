@@ -6,7 +6,7 @@ use Rattle.text.proofs.words.DateKind.said.Goals as goal
 pub returns : goal.returns
 returns c =
     let word = c.args.word.now in
-    ap Some (day_found _ _ _ c.day_number.result c.day_number.ensures.value)
+    ap Some (day_found _ _ _ c.number.result c.number.ensures.value)
     ∙ date_by_parts word _ _ _ c.if-word-ne10.false c.if-word-ne45.false c.if-word-ne45-2.false
     c.in_ok-year.ensures.value c.in_ok-month.ensures.value
     (c.in_ok-day.ensures.value ∙ ap (digits_from 10 0) (last_part word c.if-word-ne10.false))
