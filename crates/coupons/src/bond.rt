@@ -1,6 +1,6 @@
 // The bond that is played: its days, its deal, its holders and the calls on it.
 use calendar::Convention;
-use days::day_number;
+use days::Date;
 use register::Call;
 use schedules::{Deal, Stub};
 
@@ -31,11 +31,11 @@ impl Diary {
     // Absent only if one of these is no date.
     pub fn of_half_year() -> Option<Diary> {
         Some(Diary {
-            start: day_number(2023, 9, 30)?,
-            end: day_number(2024, 3, 31)?,
-            sale: day_number(2023, 11, 15)?,
-            coupon: day_number(2023, 12, 29)?,
-            late: day_number(2024, 4, 1)?,
+            start: Date::new(2023, 9, 30).number()?,
+            end: Date::new(2024, 3, 31).number()?,
+            sale: Date::new(2023, 11, 15).number()?,
+            coupon: Date::new(2023, 12, 29).number()?,
+            late: Date::new(2024, 4, 1).number()?,
         })
     }
 

@@ -54,20 +54,18 @@ impl Account {
 fn first_date(dates: &[u32], day: u32) -> u32
     ensures { result ≡ first_of dates.now 0 day }
 {
-    let mut first = 0;
-    for date in dates {
-        if *date > day {
-            return first;
-        }
-        first = *date;
-    }
-    first
+    dates
+        .iter()
+        .take_while(|date| **date <= day)
+        .last()
+        .copied()
+        .unwrap_or(0)
 }
 
 // How much the count from the first date of its period grows over a day.
 fn step_of<D: DayCount>(basis: &D, dates: &[u32], day: u32) -> u32
     requires { day + 1 < 2 ^ 32 }
-    ensures { result ≡ step (asked (D.DayCount.counted basis.now)) dates.now day }
+    ensures { result ≡ step (asked (D.counted basis.now)) dates.now day }
 {
     let first = first_date(dates, day);
     basis
@@ -81,28 +79,6 @@ fn pass_evenings(accounts: &mut [Account], rate: u64, step: u32)
     for account in accounts.iter_mut() {
         account.pass_evening(rate, step);
     }
-}
-
-// A holder that has no account changes none.
-fn gain_at(accounts: &mut [Account], holder: u64, amount: u64)
-    ensures { accounts.new ≡ slice_set accounts.old holder (gained amount (slice_index_or accounts.old holder none_held)) }
-{
-    let index = holder as usize;
-    if index >= accounts.len() {
-        return;
-    }
-    accounts[index].gain(amount);
-}
-
-// A holder that has no account changes none.
-fn lose_at(accounts: &mut [Account], holder: u64, amount: u64)
-    ensures { accounts.new ≡ slice_set accounts.old holder (lost amount (slice_index_or accounts.old holder none_held)) }
-{
-    let index = holder as usize;
-    if index >= accounts.len() {
-        return;
-    }
-    accounts[index].lose(amount);
 }
 
 // One account for each holder, and one that holds the nominal.
@@ -126,7 +102,7 @@ impl<'a> Journal<'a> {
         }
     }
 
-    // Notes a call that was accepted.
+    // Notes a call that was accepted, each kind in its own way.
     pub fn note<D: DayCount>(&mut self, basis: &D, call: &Call<'a>) {
         match call {
             Call::Post | Call::Pay { .. } => (),
@@ -163,19 +139,28 @@ impl<'a> Journal<'a> {
         self.today = day;
     }
 
+    // A holder that has no account changes none. The test and the index: behind `get_mut` a proof knows nothing of what was
+    // written.
     fn give(&mut self, holder: u64, amount: u64)
         ensures holders { self.new.holders ≡ slice_set self.old.holders holder (gained amount (slice_index_or self.old.holders holder none_held)) }
         ensures all { self.new.all ≡ gained amount self.old.all }
     {
-        gain_at(&mut self.holders, holder, amount);
+        let index = holder as usize;
+        if index < HOLDERS {
+            self.holders[index].gain(amount);
+        }
         self.all.gain(amount);
     }
 
+    // The same of what is taken.
     fn take(&mut self, holder: u64, amount: u64)
         ensures holders { self.new.holders ≡ slice_set self.old.holders holder (lost amount (slice_index_or self.old.holders holder none_held)) }
         ensures all { self.new.all ≡ lost amount self.old.all }
     {
-        lose_at(&mut self.holders, holder, amount);
+        let index = holder as usize;
+        if index < HOLDERS {
+            self.holders[index].lose(amount);
+        }
         self.all.lose(amount);
     }
 }

@@ -1,29 +1,11 @@
 // A line of the table: a row of the register, and the two sides of the interest equation.
-ghost use Rattle.std.specs.Prelude.{◌≡◌, ◌+◌, ◌-◌, ◌^◌, ◌≤◌, min, ◌==◌};
+ghost use Rattle.std.specs.Prelude.{◌≡◌, ◌+◌, ◌-◌, ◌^◌, min, ◌==◌};
 ghost use Rattle.register.specs.Rows.{worth};
 ghost use Rattle.register.specs.Rules.{unit};
 
 use crate::journal::Account;
 use counts::DayCount;
 use register::Row;
-
-// A rate is in parts of this.
-const PARTS: u64 = 100_000;
-
-// So many ticks are one minor unit.
-pub fn unit_of<D: DayCount>(basis: &D) -> u64
-    ensures value { result ≡ unit D.DayCount.per }
-    ensures bound { result ≤ 36600000 }
-{
-    PARTS * basis.per_year() as u64
-}
-
-// The interest of a row in ticks: what was paid, what is due and what is carried.
-fn worth_of<D: DayCount>(basis: &D, row: &Row) -> u128
-    ensures { result ≡ worth (unit D.DayCount.per) row.now }
-{
-    (row.paid as u128 + row.due as u128) * unit_of(basis) as u128 + row.ticks as u128
-}
 
 #[derive(Clone, Copy)]
 pub struct Line {
@@ -35,12 +17,12 @@ pub struct Line {
 impl Line {
     pub fn new<D: DayCount>(basis: &D, row: &Row, account: Account) -> Line
         ensures row { result.row ≡ row.now }
-        ensures left { result.left ≡ worth (unit D.DayCount.per) row.now }
+        ensures left { result.left ≡ worth (unit D.per) row.now }
         ensures right { result.right ≡ account.interest }
     {
         Line {
             row: *row,
-            left: worth_of(basis, row),
+            left: row.worth(basis),
             right: account.interest,
         }
     }
@@ -50,12 +32,7 @@ impl Line {
         ensures { (result.left ≡ 0) × (result.right ≡ account.interest) }
     {
         Line {
-            row: Row {
-                holding: 0,
-                paid: 0,
-                due: 0,
-                ticks: 0,
-            },
+            row: Row::default(),
             left: 0,
             right: account.interest,
         }

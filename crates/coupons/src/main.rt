@@ -12,27 +12,26 @@ mod print;
 use anyhow::Context;
 use bond::{CALLS, DATES, Diary};
 use calendar::weekends_and_easter;
-use counts::Actual360;
+use counts::actual_360;
 use days::Refusal;
 use journal::Journal;
 use print::{
     print_heading, print_legend, print_outcome, print_refusal, print_schedule, print_table,
 };
-use register::{Answer, Call, play};
+use register::{Call, play};
 use schedules::{Deal, schedule};
 use std::io;
 
 // Each call is shown by playing it behind the calls before it on a new register, so that what is printed is what the
 // proved call says of that list. The journal is fed the call if it was accepted.
 fn print_calls(rt: &HostRuntime, calls: &[Call; CALLS]) -> io::Result<()> {
-    let basis = Actual360;
+    let basis = actual_360();
     let mut journal = Journal::new();
-    for last in 0..CALLS {
-        let call = &calls[last];
-        let mut answers = [Answer::Accepted(0); CALLS];
-        let register = play(basis, &calls[0..last + 1], &mut answers);
+    for (last, call) in calls.iter().enumerate() {
+        let mut answers = [Ok(0); CALLS];
+        let register = play(basis, &calls[..=last], &mut answers);
         let answer = answers[last];
-        if let Answer::Accepted(_) = answer {
+        if answer.is_ok() {
             journal.note(&basis, call);
         }
         print_outcome(rt, last + 1, call, answer)?;
@@ -51,12 +50,12 @@ fn write_dates(deal: &Deal, table: &mut [u32]) -> Result<usize, Refusal>
 fn print_bond(rt: &HostRuntime, diary: &Diary) -> io::Result<()> {
     let deal = diary.deal();
     let mut table = [0; DATES];
-    print_heading(rt, &Actual360, &deal)?;
+    print_heading(rt, &actual_360(), &deal)?;
     match write_dates(&deal, &mut table) {
         Ok(count) => {
-            let dates = &table[0..count];
+            let dates = &table[..count];
             print_schedule(rt, dates)?;
-            print_legend(rt, &Actual360)?;
+            print_legend(rt, &actual_360())?;
             print_calls(rt, &diary.calls(dates))
         }
         Err(refusal) => print_refusal(rt, refusal),

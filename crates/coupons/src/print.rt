@@ -1,42 +1,20 @@
 // What is printed: the bond, and for each call its answer and the table of the holders.
-use crate::bond::{HOLDERS, RATE};
+use crate::bond::RATE;
 use crate::journal::Journal;
-use crate::line::{Line, unit_of};
+use crate::line::Line;
 use counts::DayCount;
-use days::{Layer, Refusal, date_of};
-use register::{Answer, Call, Row};
+use days::{Date, DateOrNone, Refusal};
+use register::{Call, Row, ticks_per_unit};
 use schedules::Deal;
-use std::{fmt, io};
-
-// A day as its date.
-#[derive(Clone, Copy)]
-struct Shown(u32);
-
-impl fmt::Display for Shown {
-    fn fmt<W: fmt::Write>(&self, f: &mut fmt::Formatter<W>) -> fmt::Result {
-        match date_of(self.0) {
-            Some((year, month, day)) => write!(f, "{year:04}-{month:02}-{day:02}"),
-            None => f.pad("none"),
-        }
-    }
-}
-
-fn letter_of(layer: Layer) -> char {
-    match layer {
-        Layer::Text => 'T',
-        Layer::Calendar => 'C',
-        Layer::Deal => 'D',
-        Layer::Register => 'R',
-    }
-}
+use std::io;
 
 pub fn print_heading<D: DayCount>(rt: &HostRuntime, basis: &D, deal: &Deal) -> io::Result<()> {
     println!(rt; "Half a year of a bond, call by call")?;
     println!(rt; "")?;
     println!(rt;
         "Term      {} to {}, every {} months, short first period",
-        Shown(deal.start),
-        Shown(deal.end),
+        DateOrNone(Date::of(deal.start)),
+        DateOrNone(Date::of(deal.end)),
         deal.months
     )?;
     println!(rt;
@@ -44,14 +22,14 @@ pub fn print_heading<D: DayCount>(rt: &HostRuntime, basis: &D, deal: &Deal) -> i
     )?;
     println!(rt;
         "Interest  {RATE}/100000 a year, actual/360; {} ticks are one minor unit",
-        unit_of(basis)
+        ticks_per_unit(basis)
     )
 }
 
 pub fn print_schedule(rt: &HostRuntime, dates: &[u32]) -> io::Result<()> {
     print!(rt; "Dates   ")?;
     for date in dates {
-        print!(rt; "  {}", Shown(*date))?;
+        print!(rt; "  {}", DateOrNone(Date::of(*date)))?;
     }
     println!(rt; "")?;
     println!(rt; "")
@@ -61,18 +39,19 @@ pub fn print_legend<D: DayCount>(rt: &HostRuntime, basis: &D) -> io::Result<()> 
     println!(rt; "The two sides of the interest equation, in ticks:")?;
     println!(rt;
         "  left   (paid + due) x {} + ticks, from the register's rows",
-        unit_of(basis)
+        ticks_per_unit(basis)
     )?;
     println!(rt;
         "  right  holding x {RATE} x step of the day, added over the evenings passed, from the calls alone"
     )
 }
 
+// A call as a sentence, each kind with words of its own.
 fn print_call(rt: &HostRuntime, call: &Call) -> io::Result<()> {
     match call {
         Call::Post => println!(rt; "post"),
         Call::Open { holdings, .. } => println!(rt; "open with holdings {holdings:?}"),
-        Call::Advance { day } => println!(rt; "advance to {}", Shown(*day)),
+        Call::Advance { day } => println!(rt; "advance to {}", DateOrNone(Date::of(*day))),
         Call::Transfer { from, to, amount } => {
             println!(rt; "transfer {amount} from holder {from} to holder {to}")
         }
@@ -82,24 +61,21 @@ fn print_call(rt: &HostRuntime, call: &Call) -> io::Result<()> {
 }
 
 pub fn print_refusal(rt: &HostRuntime, refusal: Refusal) -> io::Result<()> {
-    let number = refusal.number();
-    let layer = letter_of(refusal.layer());
-    let place = refusal.place();
-    println!(rt; "   refused: {number}, layer {layer}, place {place}")
+    println!(rt; "   refused: {refusal}")
 }
 
 pub fn print_outcome(
     rt: &HostRuntime,
     number: usize,
     call: &Call,
-    answer: Answer,
+    answer: Result<u64, Refusal>,
 ) -> io::Result<()> {
     println!(rt; "")?;
     print!(rt; "{number}. ")?;
     print_call(rt, call)?;
     match answer {
-        Answer::Accepted(value) => println!(rt; "   answer: {value}"),
-        Answer::Refused(refusal) => print_refusal(rt, refusal),
+        Ok(value) => println!(rt; "   answer: {value}"),
+        Err(refusal) => print_refusal(rt, refusal),
     }
 }
 
@@ -128,8 +104,8 @@ pub fn print_table<D: DayCount>(
 ) -> io::Result<()> {
     println!(rt; "   holder   holding   paid    due          ticks           left          right")?;
     let mut all = Line::total(journal.all);
-    for (i, row) in rows.iter().take(HOLDERS).enumerate() {
-        let line = Line::new(basis, row, journal.holders[i]);
+    for (i, (row, account)) in rows.iter().zip(&journal.holders).enumerate() {
+        let line = Line::new(basis, row, *account);
         print!(rt; "   {i:>6}")?;
         print_line(rt, &line)?;
         all.add(&line);

@@ -1,7 +1,7 @@
 // A statement: the reports on all deals of a text, one after another, or the line that tells its fault.
 #![tactic(auto)]
 
-ghost use Rattle.std.specs.Prelude.{◌≤◌};
+ghost use Rattle.std.specs.Prelude.{◌≤◌, length};
 
 use anyhow::anyhow;
 use days::Refusal;
@@ -18,39 +18,19 @@ fn print_fault<W: Write>(fault: &Fault, page: &mut [u8], out: &mut W) -> anyhow:
     if let Refusal::NoSuchDeal = fault.refusal {
         return Ok(());
     }
-    match fault_line(fault, page) {
-        Ok(end) => Ok(out.write_all(&page[0..end])?),
-        Err(_) => Err(anyhow!("the page has no room for a line")),
-    }
+    let end =
+        fault_line(fault, page).map_err(|_| anyhow!("the page has no room for a line"))?;
+    Ok(out.write_all(&page[..end])?)
 }
 
 // The whole lines before the stop, and then the end.
-fn print_end<W: Write>(stopped: &Stopped, page: &mut [u8], out: &mut W) -> anyhow::Result<()> {
-    if stopped.written <= page.len() {
-        out.write_all(&page[0..stopped.written])?;
-    }
+fn print_end<W: Write>(stopped: &Stopped, page: &mut [u8], out: &mut W) -> anyhow::Result<()>
+    requires { stopped.now.written ≤ length page.old }
+{
+    out.write_all(&page[..stopped.written])?;
     match &stopped.why {
         Unread::NoRoom => Err(anyhow!("the tables have no room for the text")),
         Unread::Faulty(fault) => print_fault(fault, page, out),
-    }
-}
-
-// The report of one deal; false where the statement ends with it.
-fn print_report<W: Write>(
-    ledger: &Ledger,
-    deal: usize,
-    page: &mut [u8],
-    out: &mut W,
-) -> anyhow::Result<bool> {
-    match ledger.report(deal, page) {
-        Ok(end) => {
-            out.write_all(&page[0..end])?;
-            Ok(true)
-        }
-        Err(stopped) => {
-            print_end(&stopped, page, out)?;
-            Ok(false)
-        }
     }
 }
 
@@ -62,8 +42,9 @@ fn print_reports<W: Write>(
     out: &mut W,
 ) -> anyhow::Result<()> {
     for deal in 0..most {
-        if !print_report(ledger, deal, page, out)? {
-            return Ok(());
+        match ledger.report(deal, page) {
+            Ok(end) => out.write_all(&page[..end])?,
+            Err(stopped) => return print_end(&stopped, page, out),
         }
     }
     Ok(())

@@ -1,12 +1,12 @@
 -- The bounds of a book, and that each call keeps them.
 -- Assumes nothing.
-use Rattle.std.proofs.Common.{◌≡◌, ℕ, zero, suc, ◌+◌, ◌-◌, ◌*◌, ◌%◌, ◌^◌, ◌<◌, ◌≤◌, List, [], ◌∷◌, map, length, get_or, set, replicate, sum_by, sum, sym, refl, ap, ◌∙◌, mul-le-mul_right, mod-lt, add-mul, mul-le-mul, arith, length-set}
+use Rattle.std.proofs.Common.{◌≡◌, ℕ, zero, suc, ◌+◌, ◌-◌, ◌*◌, ◌%◌, ◌<◌, ◌≤◌, List, [], ◌∷◌, map, length, get_or, set, replicate, sum_by, sum, sym, refl, ap, ◌∙◌, mul-le-mul_right, mod-lt, add-mul, mul-le-mul, arith, length-set}
 use lib.ListN.{length-map}
 use Rattle.std.proofs.lemmas.List.{length-append, length-replicate}
-use Rattle.std.proofs.lemmas.List.Sums.{sum_by-cons, sum_by-append, sum_by-set, get_or-le-sum_by}
+use Rattle.std.proofs.lemmas.List.Sums.{sum_by-cons, sum_by-append, sum_by-set, sum_by-le-sum_by}
 use Rattle.register.specs.declared.row.Row.{Row}
 use Rattle.register.specs.Rows.{accrued, posted, settled, gained, lost, worth, total_holding, total_ticks, total_worth, zero_row, opened_row, opened}
-use Rattle.register.proofs.Sweeps.{sum_by_below, units_below}
+use Rattle.register.proofs.Sweeps.{units_below}
 
 pub sum_by_map : {X Y : Type 0} (f : Y → ℕ) (g : X → Y) (xs : List X) → sum_by f (map g xs) ≡ sum_by (λ x. f (g x)) xs
 sum_by_map f g [] = refl
@@ -51,12 +51,6 @@ interest_most rows rate n few low =
     let product : total_holding rows * rate ≤ 10000000000 * 50000 = mul-le-mul few low in
     (product, mul-le-mul_right n product)
 
-pub accrue_room :
-    (rows : List Row) (tally period rate n : ℕ) → Bounded rows tally period → rate ≤ 50000 → tally + n ≤ 1098 →
-    (total_ticks rows + total_holding rows * rate * n < 2 ^ 64) × (total_holding rows * rate < 2 ^ 64)
-accrue_room rows tally period rate n b low within =
-    let most = interest_most rows rate n b.nominal low in (omega arith, omega arith)
-
 pub accrue_bounded :
     (rows now : List Row) (tally period rate n : ℕ) → Bounded rows tally period → rate ≤ 50000 → tally + n ≤ 1098 →
     now ≡ map (accrued rate n) rows → Bounded now (tally + n) period
@@ -98,7 +92,7 @@ post_bounded rows now tally period v b low high e =
     let ticks = posted_ticks rows now v b.room low high e in
     let money : total_worth 100000 now ≤ total_worth 100000 rows =
     rw (ap (total_worth 100000) e ∙ sum_by_map (worth 100000) (posted v) rows)
-    (sum_by_below (λ r. worth 100000 (posted v r)) (worth 100000) (λ r. omega (arith, units_below r.ticks v low)) rows)
+    (sum_by-le-sum_by (λ r. worth 100000 (posted v r)) (worth 100000) rows (λ r. omega (arith, units_below r.ticks v low)))
     in
     record {
       room = ap length e ∙ length-map rows (posted v) ∙ b.room;
@@ -140,40 +134,6 @@ changed_twice rows mid now a b c d p q =
       ticks = q.ticks ∙ p.ticks;
       money = λ v. q.money v ∙ p.money v;
     }
-
-pub change_bounded :
-    (rows now : List Row) (tally period less more : ℕ) → Bounded rows tally period → Changed rows now less more → more ≤ less →
-    Bounded now tally period
-change_bounded rows now tally period less more b c h =
-    record {
-      room = c.room ∙ b.room;
-      counted = b.counted;
-      periods = b.periods;
-      nominal = omega arith;
-      carried = omega arith;
-      money = omega (arith, c.money 100000);
-    }
-
--- a new period begins with no count
-pub begin_bounded : (rows : List Row) (tally period : ℕ) → Bounded rows tally period → period < 480 → total_ticks rows ≤ 585600000 → Bounded rows 0 (period + 1)
-begin_bounded rows tally period b less few =
-    record {
-      room = b.room;
-      counted = omega arith;
-      periods = omega arith;
-      nominal = b.nominal;
-      carried = omega arith;
-      money = omega arith;
-    }
-
--- what a row of a bounded book holds, at the most
-pub row_most :
-    (rows : List Row) (tally period i : ℕ) → Bounded rows tally period → i < 16 →
-    ((get_or rows i zero_row).holding ≤ 10000000000) × ((get_or rows i zero_row).paid + (get_or rows i zero_row).due < 2 ^ 64)
-row_most rows tally period i b less =
-    let h = get_or-le-sum_by (λ r. r.holding) rows i zero_row (omega arith) in
-    let w = get_or-le-sum_by (worth 100000) rows i zero_row (omega arith) in
-    (omega arith, omega arith)
 
 -- the three changes of one row
 pub lost_changes :
@@ -222,6 +182,11 @@ pub sum_none : (holdings : List ℕ) → sum_by (λ h. 0) holdings ≡ 0
 sum_none [] = refl
 sum_none (h ∷ hs) = sum_by-cons (λ k. 0) h hs ∙ omega (arith, sum_none hs)
 
+pub opened_long : (holdings : List ℕ) → length holdings ≤ 16 → length (opened holdings) ≡ 16
+opened_long holdings few =
+    length-append (map opened_row holdings) (replicate (16 - length holdings) zero_row)
+    ∙ omega (arith, length-map holdings opened_row, length-replicate (16 - length holdings) zero_row)
+
 pub opened_bounded :
     (holdings : List ℕ) (rows : List Row) → length holdings ≤ 16 → sum holdings ≤ 10000000000 → rows ≡ opened holdings → Bounded rows 0 0
 opened_bounded holdings rows few most e =
@@ -230,13 +195,8 @@ opened_bounded holdings rows few most e =
     let money : total_worth 100000 rows ≡ 0 =
     ap (total_worth 100000) e ∙ sum_opened (worth 100000) (λ h. 0) refl (λ h. refl) holdings ∙ sum_none holdings
     in
-    let long : length rows ≡ 16 =
-    ap length e
-    ∙ length-append (map opened_row holdings) (replicate (16 - length holdings) zero_row)
-    ∙ omega (arith, length-map holdings opened_row, length-replicate (16 - length holdings) zero_row)
-    in
     record {
-      room = long;
+      room = ap length e ∙ opened_long holdings few;
       counted = omega arith;
       periods = omega arith;
       nominal = omega arith;

@@ -5,7 +5,6 @@ pub mod Dates
 pub mod Seen
 pub mod Accepted
 pub mod Counts
-pub mod Ruled
 pub mod Telescope
 pub mod Sound
 pub mod Carry
@@ -13,3 +12,4 @@ pub mod Law
 pub mod Carries
 pub mod Runs
 pub mod Playing
+pub mod Opening

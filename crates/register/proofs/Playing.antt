@@ -1,16 +1,30 @@
 -- The loop that plays a list of calls.
 -- Assumes nothing.
-use Rattle.std.proofs.Common.{◌≡◌, ℕ, ◌+◌, ◌<◌, ◌≤◌, min, List, [], ◌∷◌, ◌++◌, map, length, get_or, take, drop, set, sym, refl, ap, ◌∙◌, ⊎_elim, append_assoc, append-nil, arith}
+use Rattle.std.proofs.Common.{◌≡◌, ℕ, Result, Ok, Err, ◌+◌, ◌<◌, ◌≤◌, min, List, [], ◌∷◌, ◌++◌, map, length, get_or, take, drop, set, sym, refl, ap, ◌∙◌, ⊎_elim, append_assoc, append-nil, arith}
 use lib.ListN.{length-map}
 use Rattle.std.proofs.lemmas.List.{at_drop_more, take_more_set, map-append, drop-set-lt, drop-drop, drop_all, drop-map, take-append-drop, length-take, get_or-take, get_or-map}
 use Rattle.register.specs.declared.call.Call.TheVariants.{Post}
 use Rattle.std.proofs.lemmas.Bool.{cases_lt}
-use Rattle.register.specs.declared.answer.Answer.{Answer}
+use Rattle.days.specs.declared.refusal.Refusal.{Refusal}
 use Rattle.register.specs.declared.call.Call.{Call as Made}
 use Rattle.register.specs.Calls.{Call, posting}
 use Rattle.register.specs.Plain.{plain, played}
 use Rattle.register.specs.Rules.{View}
-use Rattle.register.specs.Runs.{stepped, outcome, run, outcomes, seen_answer}
+use Rattle.register.specs.Runs.{left_by, said_by, stepped, outcome, run, outcomes, seen_answer}
+use Rattle.register.specs.Mirrors.{Follows}
+
+-- a call that follows its rule leaves and answers what the rules say
+pub by_rule :
+    (count : ℕ → ℕ → ℕ) (per : ℕ) (v v' : View) (call : Call) (r : Result ℕ Refusal) → Follows count per v call v' r →
+    (v' ≡ stepped count per v call) × (seen_answer r ≡ outcome count per v call)
+by_rule count per v v' call (Ok n) (judged, left, said) = (
+  left ∙ sym (ap (left_by count per v call) judged),
+  ap Ok said ∙ sym (ap (said_by count per v call) judged),
+)
+by_rule count per v v' call (Err e) (judged, same) = (
+  same ∙ sym (ap (left_by count per v call) judged),
+  sym (ap (said_by count per v call) judged),
+)
 
 module _ (count : ℕ → ℕ → ℕ) (per : ℕ) (cs : List Call) where
   run_more : (v : View) (i : ℕ) → i < length cs →
@@ -26,17 +40,18 @@ module _ (count : ℕ → ℕ → ℕ) (per : ℕ) (cs : List Call) where
 
   -- one call more
   pub played_more :
-      (start v v' : View) (i : ℕ) (call : Call) (before answers : List Answer) (answer : Answer) → i < length cs → i < length answers →
-      call ≡ get_or cs i posting → v' ≡ stepped count per v call → seen_answer answer ≡ outcome count per v call →
+      (start v v' : View) (i : ℕ) (call : Call) (before answers : List (Result ℕ Refusal)) (answer : Result ℕ Refusal) → i < length cs → i < length answers →
+      call ≡ get_or cs i posting → Follows count per v call v' answer →
       run count per v (drop i cs) ≡ run count per start cs →
       map seen_answer (take i answers) ++ outcomes count per v (drop i cs) ≡ outcomes count per start cs →
       drop i answers ≡ drop i before →
       (run count per v' (drop (i + 1) cs) ≡ run count per start cs)
       × (map seen_answer (take (i + 1) (set answers i answer)) ++ outcomes count per v' (drop (i + 1) cs) ≡ outcomes count per start cs)
       × (drop (i + 1) (set answers i answer) ≡ drop (i + 1) before)
-  played_more start v v' i call before answers answer less room is next said runs answered rest =
-      let there : stepped count per v (get_or cs i posting) ≡ v' = ap (stepped count per v) (sym is) ∙ sym next in
-      let told : outcome count per v (get_or cs i posting) ≡ seen_answer answer = ap (outcome count per v) (sym is) ∙ sym said in
+  played_more start v v' i call before answers answer less room is follows runs answered rest =
+      let by = by_rule count per v v' call answer follows in
+      let there : stepped count per v (get_or cs i posting) ≡ v' = ap (stepped count per v) (sym is) ∙ sym by.0 in
+      let told : outcome count per v (get_or cs i posting) ≡ seen_answer answer = ap (outcome count per v) (sym is) ∙ sym by.1 in
       let view : run count per v (drop i cs) ≡ run count per v' (drop (i + 1) cs) = rw there at (run_more v i less) in
       let list : outcomes count per v (drop i cs) ≡ seen_answer answer ∷ outcomes count per v' (drop (i + 1) cs) =
       rw (told, there) at (outcomes_more v i less)
@@ -53,7 +68,7 @@ module _ (count : ℕ → ℕ → ℕ) (per : ℕ) (cs : List Call) where
 
   -- and the last
   pub played_all :
-      (start v : View) (i : ℕ) (before answers : List Answer) (n : ℕ) → length cs ≤ i → run count per v (drop i cs) ≡ run count per start cs →
+      (start v : View) (i : ℕ) (before answers : List (Result ℕ Refusal)) (n : ℕ) → length cs ≤ i → run count per v (drop i cs) ≡ run count per start cs →
       map seen_answer (take i answers) ++ outcomes count per v (drop i cs) ≡ outcomes count per start cs →
       drop i answers ≡ drop i before → drop i before ≡ drop n before →
       (v ≡ run count per start cs)
@@ -73,7 +88,7 @@ module _ (count : ℕ → ℕ → ℕ) (per : ℕ) (cs : List Call) where
       )
 
 -- as many calls are played as there is room for
-pub played_long : (calls : List Made) (answers : List Answer) → length (played calls answers) ≡ min (length calls) (length answers)
+pub played_long : (calls : List Made) (answers : List (Result ℕ Refusal)) → length (played calls answers) ≡ min (length calls) (length answers)
 played_long calls answers =
     length-take (length answers) (map plain calls) ∙ omega (arith, length-map calls plain)
 
@@ -83,7 +98,7 @@ beyond n xs i e =
     (λ (past : length xs ≤ n). drop_all i xs (omega arith) ∙ sym (drop_all n xs past)) (cases_lt n (length xs))
 
 pub call_at :
-    (calls : List Made) (answers : List Answer) (i : ℕ) → i < length calls → i < length answers →
+    (calls : List Made) (answers : List (Result ℕ Refusal)) (i : ℕ) → i < length calls → i < length answers →
     plain (get_or calls i Post) ≡ get_or (played calls answers) i posting
 call_at calls answers i less room =
     sym (get_or-take (length answers) (map plain calls) i posting room ∙ get_or-map plain calls i Post posting less)

@@ -1,13 +1,13 @@
 -- A loop that changes each row in turn.
 -- Assumes nothing.
-use Rattle.std.proofs.Common.{◌≡◌, ℕ, suc, ◌+◌, ◌-◌, ◌*◌, ◌/◌, ◌%◌, ◌^◌, ◌<◌, ◌≤◌, List, [], ◌∷◌, ◌++◌, map, length, get_or, take, drop, set, replicate, sum_by, sym, refl, ◌∙◌, append_assoc, append-nil, mul-le-mul_right, mul-le-mul_left, arith}
+use Rattle.std.proofs.Common.{◌≡◌, ℕ, ◌+◌, ◌-◌, ◌*◌, ◌/◌, ◌%◌, ◌^◌, ◌<◌, ◌≤◌, List, ◌++◌, map, length, get_or, take, drop, set, refl, ◌∙◌, mul-le-mul_left, arith}
 use lib.ListN.{length-map}
-use Rattle.std.proofs.lemmas.List.{get_or-append_right, get_or-drop, take_all, drop_all, length-take-le, length-append, length-drop, get_or_default, set_at, map_more}
+use Rattle.std.proofs.lemmas.List.{get_or-append_right, get_or-drop, length-take-le, length-append, length-drop, get_or_default}
 use Rattle.std.proofs.lemmas.List.Edits.{map_over_more}
-use Rattle.std.proofs.lemmas.List.Sums.{get_or-le-sum_by, sum_by-cons, sum_by_more, sum_by-take-le}
+use Rattle.std.proofs.lemmas.List.Sums.{get_or-le-sum_by, sum_by_more, sum_by-take-le, sum_by-le-sum_by}
 use Rattle.std.proofs.lemmas.Nat.{div-add-mod'}
 use Rattle.register.specs.declared.row.Row.{Row}
-use Rattle.register.specs.Rows.{zero_row, worth, total_holding, total_ticks, total_worth, total_units, opened_row, opened}
+use Rattle.register.specs.Rows.{zero_row, worth, total_ticks, total_worth, total_units}
 
 -- the rows after i turns, of which each changed one
 abbrev pub swept : (Row → Row) → List Row → ℕ → List Row
@@ -24,12 +24,6 @@ pub swept_longer : (f : Row → Row) (rows : List Row) (i : ℕ) → i < length 
 swept_longer f rows i less =
     simp (length-append, length-map, length-drop) (omega (arith, length-take-le i rows (omega arith)))
 
-pub swept_all : (f : Row → Row) (rows : List Row) (i : ℕ) → length rows ≤ i → swept f rows i ≡ map f rows
-swept_all f rows i past =
-    let whole = take_all i rows past in
-    let none = drop_all i rows past in
-    rw (whole, none) (append-nil (map f rows))
-
 -- what is read in turn i is the row as it was
 pub read_unswept :
     (f : Row → Row) (rows now : List Row) (i : ℕ) → i < length rows → now ≡ swept f rows i →
@@ -43,25 +37,6 @@ pub sweep_more :
 sweep_more f rows now i last less e is =
     rw is
     (map_over_more f rows now i (get_or now i zero_row) less e (get_or_default now i zero_row (get_or now i zero_row) (rw e (swept_longer f rows i less))))
-
--- a row's part in the sums
-pub accrue_fits :
-    (rows : List Row) (i rate n : ℕ) → i < length rows → total_ticks rows + total_holding rows * rate * n < 2 ^ 64 →
-    total_holding rows * rate < 2 ^ 64 →
-    ((get_or rows i zero_row).ticks + (get_or rows i zero_row).holding * rate * n < 2 ^ 64)
-    × ((get_or rows i zero_row).holding * rate < 2 ^ 64)
-accrue_fits rows i rate n less room product =
-    let h = get_or-le-sum_by (λ r. r.holding) rows i zero_row less in
-    let t = get_or-le-sum_by (λ r. r.ticks) rows i zero_row less in
-    let hr = mul-le-mul_right rate h in
-    let hrn = mul-le-mul_right n hr in
-    (omega arith, omega arith)
-
--- a sum of smaller terms is smaller
-pub sum_by_below : {X : Type 0} (f g : X → ℕ) → ((x : X) → f x ≤ g x) → (xs : List X) → sum_by f xs ≤ sum_by g xs
-sum_by_below f g less [] = omega arith
-sum_by_below f g less (x ∷ xs) =
-    simp (sum_by-cons f x xs, sum_by-cons g x xs) (omega (arith, less x, sum_by_below f g less xs))
 
 -- whole units of v ticks, in ticks
 pub units_below : (t v : ℕ) → 100000 ≤ v → (t / v * 100000 + t % v ≤ t) × (t / v ≤ t)
@@ -85,30 +60,5 @@ pub units_fit :
 units_fit rows i v units more less h room e f =
     let next = sum_by_more (λ r. r.ticks / v) rows i zero_row less in
     let part = sum_by-take-le (λ r. r.ticks / v) rows (i + 1) in
-    let all = sum_by_below (λ r. r.ticks / v) (λ r. r.ticks) (λ r. (units_below r.ticks v h).1) rows in
+    let all = sum_by-le-sum_by (λ r. r.ticks / v) (λ r. r.ticks) rows (λ r. (units_below r.ticks v h).1) in
     (omega arith, omega arith)
-
--- rows that are opened one after another
-abbrev pub opening_rows : List ℕ → ℕ → List Row
-opening_rows holdings i = map opened_row (take i holdings) ++ replicate (16 - i) zero_row
-
-pub opened_more :
-    (holdings : List ℕ) (rows : List Row) (i : ℕ) → i < length holdings → length holdings ≤ 16 →
-    rows ≡ opening_rows holdings i → set rows i (opened_row (get_or holdings i 0)) ≡ opening_rows holdings (i + 1)
-opened_more holdings rows i less few e =
-    let front : length (map opened_row (take i holdings)) ≡ i =
-    length-map (take i holdings) opened_row ∙ length-take-le i holdings (omega arith)
-    in
-    let count : 16 - i ≡ suc (16 - (i + 1)) = omega arith in
-    let row = opened_row (get_or holdings i 0) in
-    let more = map_more opened_row holdings i 0 less in
-    rw e
-    (rw count
-    (set_at (map opened_row (take i holdings)) zero_row (replicate (16 - (i + 1)) zero_row) row i front
-    ∙ rw more (sym (append_assoc (map opened_row (take i holdings)) (row ∷ []) (replicate (16 - (i + 1)) zero_row)))))
-
-pub opened_all :
-    (holdings : List ℕ) (rows : List Row) (i : ℕ) → i ≡ length holdings → rows ≡ opening_rows holdings i → rows ≡ opened holdings
-opened_all holdings rows i end e =
-    let all = take_all (length holdings) holdings (omega arith) in
-    e ∙ rw (end, all) refl

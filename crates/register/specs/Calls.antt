@@ -1,8 +1,9 @@
 -- The calls on a register, and when each is refused.
 -- Assumes nothing.
-use Rattle.std.specs.Prelude.{ℕ, ◌+◌, Bool, true, cond, not, ◌&&◌, ◌||◌, List, [], ◌∷◌, length, drop, Some, None, sum, Option, ◌==◌, nat_le, nat_lt, slice_index}
+use Rattle.std.specs.Prelude.{◌≡◌, ℕ, ◌+◌, Bool, true, cond, not, ◌&&◌, ◌||◌, List, [], ◌∷◌, length, drop, Some, None, sum, Option, Result, MatchResult, ◌==◌, nat_le, nat_lt, slice_index}
 use Rattle.days.specs.Calendar.{last_day}
-use Rattle.days.specs.Refusals.{Told, answer}
+use Rattle.days.specs.Refusals.{Told, told, answer}
+use Rattle.days.specs.declared.refusal.Refusal.{Refusal}
 use Rattle.days.specs.declared.refusal.Layer.TheVariants.{Register}
 
 pub data Call : Type 0 where
@@ -93,3 +94,7 @@ judge s (redemption holder amount) =
     (refuse_if (closed s) 20 (refuse_if (unknown s holder) 22 (refuse_if (uncovered s holder amount) 24 None)))
 judge s posting = refuse_if (empty s) 19 (refuse_if (closed s) 20 None)
 judge s (payment holder) = refuse_if (empty s) 19 (refuse_if (unknown s holder) 22 None)
+
+-- what is judged is let through where there is no cause, and else refused with that cause
+abbrev pub IsJudged : {T : Type 0} → Option Told → Result T Refusal → Type 0
+IsJudged cause r = MatchResult r (λ x. cause ≡ None) (λ e. cause ≡ Some (told e))

@@ -3,7 +3,7 @@
 use Rattle.std.specs.Prelude.{◌≡◌, ℕ, ◌-◌, List, [], ◌∷◌, ◌++◌, Some, None, Result, MatchResult, slice_index}
 use Rattle.days.specs.Refusals.{told}
 use Rattle.days.specs.declared.refusal.Refusal.{Refusal}
-use Rattle.register.specs.Calls.{Call, judge}
+use Rattle.register.specs.Calls.{Call, judge, IsJudged}
 use Rattle.register.specs.Journal.{Journal, journal, state_of}
 use Rattle.register.specs.Interest.{holder_interest, nominal_interest}
 use Rattle.register.specs.Rows.{at, worth, total_worth, total_holding}
@@ -33,8 +33,7 @@ After count per calls v = Mirrors count per (journal calls) v
 
 -- the call is refused just as the journal refuses it
 abbrev pub AsJudged : Journal → Call → Result ℕ Refusal → Type 0
-AsJudged j call r =
-    MatchResult r (λ n. judge (state_of j) call ≡ None) (λ e. judge (state_of j) call ≡ Some (told e))
+AsJudged j call r = IsJudged (judge (state_of j) call) r
 
 -- a call's share of the law: from standing after any list of calls to standing after that list and this call
 abbrev pub CarriesOn : (ℕ → ℕ → ℕ) → ℕ → View → Call → View → Result ℕ Refusal → Type 0

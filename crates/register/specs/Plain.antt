@@ -1,7 +1,7 @@
 -- A call of the program as a call of the journal.
 -- Assumes nothing.
-use Rattle.std.specs.Prelude.{List, map, length, take}
-use Rattle.register.specs.declared.answer.Answer.{Answer}
+use Rattle.std.specs.Prelude.{ℕ, List, map, length, take, Result}
+use Rattle.days.specs.declared.refusal.Refusal.{Refusal}
 use Rattle.register.specs.declared.call.Call.{Call as Made}
 use Rattle.register.specs.declared.call.Call.TheVariants.{Post, Open, Advance, Transfer, Redeem, Pay}
 use Rattle.register.specs.Calls.{Call, opening, advance, transfer, redemption, posting, payment}
@@ -15,5 +15,5 @@ plain (Redeem holder amount) = redemption holder amount
 plain (Pay holder) = payment holder
 
 -- the calls that are played: as many as there is room for answers
-abbrev pub played : List Made → List Answer → List Call
+abbrev pub played : List Made → List (Result ℕ Refusal) → List Call
 played calls answers = take (length answers) (map plain calls)

@@ -2,8 +2,7 @@
 -- Assumes nothing.
 use Rattle.std.specs.Prelude.{◌≡◌, ℕ, ◌<◌, ◌≤◌, List, [], ◌∷◌, length, take, Some, None, Ok, Err, Option, Result, MatchResult, slice_index_or}
 use Rattle.days.specs.Refusals.{Told, told}
-use Rattle.register.specs.declared.answer.Answer.{Answer}
-use Rattle.register.specs.declared.answer.Answer.TheVariants.{Accepted, Refused}
+use Rattle.days.specs.declared.refusal.Refusal.{Refusal}
 use Rattle.register.specs.Calls.{Call, posting, judge}
 use Rattle.register.specs.Journal.{journal, state_of}
 use Rattle.register.specs.Mirrors.{After}
@@ -38,9 +37,9 @@ unfoldable pub outcomes : (ℕ → ℕ → ℕ) → ℕ → View → List Call �
 outcomes count per v [] = []
 outcomes count per v (call ∷ calls) = outcome count per v call ∷ outcomes count per (stepped count per v call) calls
 
-abbrev pub seen_answer : Answer → Result ℕ Told
-seen_answer (Accepted n) = Ok n
-seen_answer (Refused refusal) = Err (told refusal)
+abbrev pub seen_answer : Result ℕ Refusal → Result ℕ Told
+seen_answer (Ok n) = Ok n
+seen_answer (Err refusal) = Err (told refusal)
 
 -- the law, after each call of a list: the register stands after the calls so far, with the two equations of interest, and
 -- the next call is answered by the rules, and refused just as the journal of those calls refuses it

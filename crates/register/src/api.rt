@@ -2,7 +2,8 @@
 ghost use Rattle.std.specs.Prelude.{◌≡◌, []};
 ghost use Rattle.counts.specs.Counting.{asked};
 ghost use Rattle.register.specs.Calls.{opening, advance as advance_call, transfer as transfer_call, redemption, posting, payment};
-ghost use Rattle.register.specs.Mirrors.{Follows, After, CarriesOn, CountsOn};
+ghost use Rattle.register.specs.Mirrors.{After, CountsOn};
+ghost use Rattle.register.specs.Registers.{GoesByLaw};
 ghost use Rattle.register.specs.Rules.{rows_in_use};
 ghost use Rattle.register.specs.Runs.{fresh_view};
 ghost use Rattle.register.specs.Views.{view_of};
@@ -19,7 +20,7 @@ impl<D: DayCount> Register<D> {
     pub fn new(basis: D) -> Register<D>
         ensures basis { result.basis ≡ basis }
         ensures view { view_of result ≡ fresh_view }
-        ensures law { After (asked (D.DayCount.counted basis)) D.DayCount.per [] (view_of result) }
+        ensures law { After (asked (D.counted basis)) D.per [] (view_of result) }
     {
         Register {
             basis,
@@ -33,55 +34,43 @@ impl<D: DayCount> Register<D> {
     // Opens an empty register with dates, a rate in 1/100,000 a year, and the holdings of holders 0, 1, ..;
     // answers the nominal.
     pub fn open(&mut self, dates: &[u32], rate: u64, holdings: &[u64]) -> Result<u64, Refusal>
-        ensures basis { self.new.basis ≡ self.old.basis }
-        ensures rule { Follows (asked (D.DayCount.counted self.old.basis)) D.DayCount.per (view_of self.old) (opening dates.now rate holdings.now) (view_of self.new) result }
-        ensures law { CarriesOn (asked (D.DayCount.counted self.old.basis)) D.DayCount.per (view_of self.old) (opening dates.now rate holdings.now) (view_of self.new) result }
+        ensures { GoesByLaw D.counted D.per self.old (opening dates.now rate holdings.now) self.new result }
     {
         self.make_opening(dates, rate, holdings)
     }
 
     // Lets interest accrue to a day of the current period; answers the counted days.
     pub fn advance(&mut self, day: u32) -> Result<u64, Refusal>
-        ensures basis { self.new.basis ≡ self.old.basis }
-        ensures rule { Follows (asked (D.DayCount.counted self.old.basis)) D.DayCount.per (view_of self.old) (advance_call day) (view_of self.new) result }
-        ensures law { CarriesOn (asked (D.DayCount.counted self.old.basis)) D.DayCount.per (view_of self.old) (advance_call day) (view_of self.new) result }
-        ensures days { CountsOn (asked (D.DayCount.counted self.old.basis)) D.DayCount.per (view_of self.old) day }
+        ensures made { GoesByLaw D.counted D.per self.old (advance_call day) self.new result }
+        ensures days { CountsOn (asked (D.counted self.old.basis)) D.per (view_of self.old) day }
     {
         self.make_advance(day)
     }
 
     // Moves an amount of holding from one holder to another; answers the amount.
     pub fn transfer(&mut self, from: u64, to: u64, amount: u64) -> Result<u64, Refusal>
-        ensures basis { self.new.basis ≡ self.old.basis }
-        ensures rule { Follows (asked (D.DayCount.counted self.old.basis)) D.DayCount.per (view_of self.old) (transfer_call from to amount) (view_of self.new) result }
-        ensures law { CarriesOn (asked (D.DayCount.counted self.old.basis)) D.DayCount.per (view_of self.old) (transfer_call from to amount) (view_of self.new) result }
+        ensures { GoesByLaw D.counted D.per self.old (transfer_call from to amount) self.new result }
     {
         self.make_transfer(from, to, amount)
     }
 
     // Takes an amount off a holding; answers the amount.
     pub fn redeem(&mut self, holder: u64, amount: u64) -> Result<u64, Refusal>
-        ensures basis { self.new.basis ≡ self.old.basis }
-        ensures rule { Follows (asked (D.DayCount.counted self.old.basis)) D.DayCount.per (view_of self.old) (redemption holder amount) (view_of self.new) result }
-        ensures law { CarriesOn (asked (D.DayCount.counted self.old.basis)) D.DayCount.per (view_of self.old) (redemption holder amount) (view_of self.new) result }
+        ensures { GoesByLaw D.counted D.per self.old (redemption holder amount) self.new result }
     {
         self.make_redemption(holder, amount)
     }
 
     // Makes whole units due to every holder; answers their sum. On the day that ends it, the period ends.
     pub fn post(&mut self) -> Result<u64, Refusal>
-        ensures basis { self.new.basis ≡ self.old.basis }
-        ensures rule { Follows (asked (D.DayCount.counted self.old.basis)) D.DayCount.per (view_of self.old) (posting) (view_of self.new) result }
-        ensures law { CarriesOn (asked (D.DayCount.counted self.old.basis)) D.DayCount.per (view_of self.old) (posting) (view_of self.new) result }
+        ensures { GoesByLaw D.counted D.per self.old posting self.new result }
     {
         self.make_posting()
     }
 
     // Pays what is due to a holder; answers it.
     pub fn pay(&mut self, holder: u64) -> Result<u64, Refusal>
-        ensures basis { self.new.basis ≡ self.old.basis }
-        ensures rule { Follows (asked (D.DayCount.counted self.old.basis)) D.DayCount.per (view_of self.old) (payment holder) (view_of self.new) result }
-        ensures law { CarriesOn (asked (D.DayCount.counted self.old.basis)) D.DayCount.per (view_of self.old) (payment holder) (view_of self.new) result }
+        ensures { GoesByLaw D.counted D.per self.old (payment holder) self.new result }
     {
         self.make_payment(holder)
     }

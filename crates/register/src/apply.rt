@@ -1,9 +1,6 @@
 // Any call on a register: its rule, and its share of the law of interest.
-ghost use Rattle.std.specs.Prelude.{◌≡◌};
-ghost use Rattle.counts.specs.Counting.{asked};
-ghost use Rattle.register.specs.Mirrors.{Follows, CarriesOn};
 ghost use Rattle.register.specs.Plain.{plain};
-ghost use Rattle.register.specs.Views.{view_of};
+ghost use Rattle.register.specs.Registers.{GoesByRule, GoesByLaw};
 
 use crate::call::Call;
 use crate::state::Register;
@@ -11,9 +8,9 @@ use counts::DayCount;
 use days::Refusal;
 
 impl<D: DayCount> Register<D> {
+    // A match over the kinds of calls: each arm is the call of its kind.
     fn dispatch(&mut self, call: &Call) -> Result<u64, Refusal>
-        ensures basis { self.new.basis ≡ self.old.basis }
-        ensures rule { Follows (asked (D.DayCount.counted self.old.basis)) D.DayCount.per (view_of self.old) (plain call.now) (view_of self.new) result }
+        ensures { GoesByRule D.counted D.per self.old (plain call.now) self.new result }
     {
         match call {
             Call::Post => self.make_posting(),
@@ -30,9 +27,7 @@ impl<D: DayCount> Register<D> {
     }
 
     pub(crate) fn apply(&mut self, call: &Call) -> Result<u64, Refusal>
-        ensures basis { self.new.basis ≡ self.old.basis }
-        ensures rule { Follows (asked (D.DayCount.counted self.old.basis)) D.DayCount.per (view_of self.old) (plain call.now) (view_of self.new) result }
-        ensures law { CarriesOn (asked (D.DayCount.counted self.old.basis)) D.DayCount.per (view_of self.old) (plain call.now) (view_of self.new) result }
+        ensures { GoesByLaw D.counted D.per self.old (plain call.now) self.new result }
     {
         self.dispatch(call)
     }

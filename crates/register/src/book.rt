@@ -9,6 +9,8 @@ pub(crate) const MOST_HOLDERS: usize = 16;
 
 // The tally is the count so far in the current period. A period counts at most three years of 366 days, and a
 // holding times a rate is at most 500,000,000,000,000 ticks a counted day: from these the bounds follow.
+// The rows are an array, and not a vector of those in use: sixteen row structs are a form that the project keeps
+// (docs/DECISIONS.md), and the rules of a register see all of them. A register counts those in use.
 #[derive(Drop)]
 pub(crate) struct Book {
     pub(crate) rows: [Row; 16],
@@ -23,6 +25,8 @@ pub(crate) struct Book {
 }
 
 impl Book {
+    ghost use Rattle.register.specs.Books.{TurnsRows};
+
     // Ticks for every row, over n more counted days.
     pub(crate) fn accrue(&mut self, rate: u64, n: u64)
         requires rate { rate ≤ 50000 }
@@ -40,9 +44,7 @@ impl Book {
         requires low { 100000 ≤ v }
         requires high { v ≤ 36600000 }
         ensures value { result ≡ total_units v self.old.rows }
-        ensures rows { self.new.rows ≡ map (posted v) self.old.rows }
-        ensures tally { self.new.tally ≡ self.old.tally }
-        ensures period { self.new.period ≡ self.old.period }
+        ensures after { TurnsRows self.old (map (posted v) self.old.rows) self.new }
     {
         post_rows(&mut self.rows, v)
     }
@@ -65,9 +67,7 @@ impl Book {
         requires to { to < 16 }
         requires apart { from ≢ to }
         requires covered { amount ≤ (slice_index_or self.old.rows from zero_row).holding }
-        ensures rows { self.new.rows ≡ moved from to amount self.old.rows }
-        ensures tally { self.new.tally ≡ self.old.tally }
-        ensures period { self.new.period ≡ self.old.period }
+        ensures { TurnsRows self.old (moved from to amount self.old.rows) self.new }
     {
         self.rows[from].lose(amount);
         self.rows[to].gain(amount);
@@ -77,9 +77,7 @@ impl Book {
     pub(crate) fn redeem(&mut self, holder: usize, amount: u64)
         requires holder { holder < 16 }
         requires covered { amount ≤ (slice_index_or self.old.rows holder zero_row).holding }
-        ensures rows { self.new.rows ≡ redeemed holder amount self.old.rows }
-        ensures tally { self.new.tally ≡ self.old.tally }
-        ensures period { self.new.period ≡ self.old.period }
+        ensures { TurnsRows self.old (redeemed holder amount self.old.rows) self.new }
     {
         self.rows[holder].lose(amount);
     }
@@ -88,9 +86,7 @@ impl Book {
     pub(crate) fn pay(&mut self, holder: usize) -> u64
         requires { holder < 16 }
         ensures value { result ≡ (slice_index_or self.old.rows holder zero_row).due }
-        ensures rows { self.new.rows ≡ paid_out holder self.old.rows }
-        ensures tally { self.new.tally ≡ self.old.tally }
-        ensures period { self.new.period ≡ self.old.period }
+        ensures after { TurnsRows self.old (paid_out holder self.old.rows) self.new }
     {
         self.rows[holder].settle()
     }

@@ -1,7 +1,6 @@
 // The register of a bond: who holds it, and the interest of each holder.
 #![tactic(auto)]
 
-mod answer;
 mod api;
 mod apply;
 mod book;
@@ -13,12 +12,13 @@ mod row;
 mod rows;
 mod state;
 mod terms;
+mod unit;
 
-pub use answer::Answer;
 pub use call::Call;
 pub use history::play;
 pub use row::Row;
 pub use state::Register;
+pub use unit::ticks_per_unit;
 
 #[cfg(test)]
 mod tests;

@@ -1,9 +1,13 @@
 // One holder's row.
 ghost use Rattle.std.specs.Prelude.{◌≡◌, ◌+◌, ◌*◌, ◌/◌, ◌^◌, ◌<◌, ◌≤◌};
-ghost use Rattle.register.specs.Rows.{accrued, posted, settled, gained, lost, opened_row};
+ghost use Rattle.register.specs.Rows.{accrued, posted, settled, gained, lost, opened_row, worth};
+ghost use Rattle.register.specs.Rules.{unit};
+
+use crate::unit::ticks_per_unit;
+use counts::DayCount;
 
 // A holding in minor units of nominal; interest that was paid, that is due, and that is carried in ticks.
-#[derive(Clone, Copy)]
+#[derive(Clone, Copy, Default)]
 pub struct Row {
     pub holding: u64,
     pub paid: u64,
@@ -12,6 +16,13 @@ pub struct Row {
 }
 
 impl Row {
+    // The interest of a row in ticks: what was paid, what is due and what is carried.
+    pub fn worth<D: DayCount>(&self, basis: &D) -> u128
+        ensures { result ≡ worth (unit D.per) self.now }
+    {
+        (self.paid as u128 + self.due as u128) * ticks_per_unit(basis) as u128 + self.ticks as u128
+    }
+
     pub(crate) fn opened(holding: u64) -> Row
         ensures { result ≡ opened_row holding }
     {

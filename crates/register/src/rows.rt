@@ -3,6 +3,7 @@ ghost use Rattle.std.specs.Prelude.{◌≡◌, ◌+◌, ◌*◌, ◌^◌, ◌<�
 ghost use Rattle.register.specs.Rows.{accrued, posted, total_holding, total_ticks, total_worth, total_units, opened};
 
 use crate::row::Row;
+use std::array;
 
 const MOST_NOMINAL: u64 = 10_000_000_000;
 
@@ -34,11 +35,7 @@ pub(crate) fn rows_of(holdings: &[u64]) -> [Row; 16]
     requires { length holdings.now ≤ 16 }
     ensures { result ≡ opened holdings.now }
 {
-    let mut rows = [Row::opened(0); 16];
-    for (i, holding) in holdings.iter().enumerate() {
-        rows[i] = Row::opened(*holding);
-    }
-    rows
+    array::from_fn(|i| Row::opened(holdings.get(i).copied().unwrap_or(0)))
 }
 
 // The sum of the holdings, where it is at most the largest nominal.

@@ -4,7 +4,8 @@ ghost use Rattle.std.specs.Prelude.{◌≤◌};
 use crate::book::Book;
 use crate::terms::Terms;
 
-// It is empty while it has no dates, and closed after its last period.
+// It is empty while it has no dates, and closed after its last period. Contracts see it by `view_of` and its day count, and
+// not by a `Model`: what is seen of it says nothing of the day count, which every rule and law needs.
 #[derive(Drop)]
 pub struct Register<D> {
     pub(crate) basis: D,

@@ -1,7 +1,10 @@
 // The dates and the rate that a register was opened with.
-ghost use Rattle.std.specs.Prelude.{◌≡◌, ◌+◌, ◌<◌, ◌≤◌, true, length, take};
-ghost use Rattle.register.specs.Calls.{steady, follows_at};
+ghost use Rattle.std.specs.Prelude.{◌≡◌, ◌+◌, ◌<◌, ◌≤◌, ◌↔◌, ℕ, [], true, length, IsTrue, slice_index, EachIndex};
+ghost use Rattle.arrayvec.specs.ArrayVec.{array_vec_len};
+ghost use Rattle.days.specs.Calendar.{last_day};
+ghost use Rattle.register.specs.Calls.{steady};
 
+use arrayvec::ArrayVec;
 use days::LAST_DAY;
 
 pub(crate) const MOST_DATES: usize = 481;
@@ -12,61 +15,38 @@ const WIDEST: u32 = 800;
 // No dates while the register is empty.
 #[derive(Drop)]
 pub(crate) struct Terms {
-    pub(crate) dates: [u32; 481],
-    pub(crate) len: usize,
+    pub(crate) dates: ArrayVec<u32, MOST_DATES>,
     pub(crate) rate: u64,
-    ghost room: { length dates ≡ 481 },
-    ghost few: { len ≤ 481 },
+    ghost few: { array_vec_len dates ≤ 481 },
     ghost low: { rate ≤ 50000 },
-    ghost rising: { steady (take len dates) ≡ true },
+    ghost rising: { steady dates.items ≡ true },
 }
 
-// Whether the date at an index is of the range, and the next one follows it closely.
-fn follows_well(dates: &[u32], index: usize) -> bool
-    requires { index < length dates.now }
-    ensures { result ≡ follows_at dates.now index }
+fn are_days(dates: &[u32]) -> bool
+    ensures { IsTrue result ↔ EachIndex dates.now (λ k. slice_index dates.now k ≤ last_day) }
 {
-    let date = dates[index];
-    if date > LAST_DAY {
-        return false;
-    }
-    if index + 1 == dates.len() {
-        return true;
-    }
-    let next = dates[index + 1];
-    date < next && next <= date + WIDEST
+    dates.iter().all(|date| *date <= LAST_DAY)
+}
+
+// Whether each date but the first follows the one before it closely.
+fn rise_closely(dates: &[u32]) -> bool
+    ensures { IsTrue result ↔ ((k : ℕ) → k + 1 < length dates.now → (slice_index dates.now k < slice_index dates.now (k + 1)) × (slice_index dates.now (k + 1) ≤ slice_index dates.now k + 800)) }
+{
+    dates.is_sorted_by(|date, next| date < next && *next - *date <= WIDEST)
 }
 
 pub(crate) fn is_steady(dates: &[u32]) -> bool
     ensures { result ≡ steady dates.now }
 {
-    for index in 0..dates.len() {
-        if !follows_well(dates, index) {
-            return false;
-        }
-    }
-    true
-}
-
-// The dates, with zeros behind them.
-fn padded_dates(dates: &[u32]) -> [u32; 481]
-    requires { length dates.now ≤ 481 }
-    ensures { take (length dates.now) result ≡ dates.now }
-{
-    let mut all = [0; 481];
-    for (i, date) in dates.iter().enumerate() {
-        all[i] = *date;
-    }
-    all
+    are_days(dates) && rise_closely(dates)
 }
 
 impl Terms {
     pub(crate) fn none() -> Terms
-        ensures { (result.len ≡ 0) × (result.rate ≡ 0) }
+        ensures { (result.dates.items ≡ []) × (result.rate ≡ 0) }
     {
         Terms {
-            dates: [0; 481],
-            len: 0,
+            dates: ArrayVec::new(),
             rate: 0,
         }
     }
@@ -75,14 +55,12 @@ impl Terms {
         requires few { length dates.now ≤ 481 }
         requires low { rate ≤ 50000 }
         requires in_order { steady dates.now ≡ true }
-        ensures dates { take result.len result.dates ≡ dates.now }
-        ensures len { result.len ≡ length dates.now }
+        ensures dates { result.dates.items ≡ dates.now }
         ensures rate { result.rate ≡ rate }
     {
-        Terms {
-            dates: padded_dates(dates),
-            len: dates.len(),
-            rate,
+        match ArrayVec::try_from(dates) {
+            Ok(dates) => Terms { dates, rate },
+            Err(_) => unreachable(),
         }
     }
 }

@@ -1,6 +1,6 @@
 // A register's whole life, with every refusal that a call can meet.
 use crate::*;
-use counts::Actual360;
+use counts::{actual_360, actual_365};
 use days::Refusal;
 
 // Over 360 and at this rate a day's interest on 1000 is one unit.
@@ -36,18 +36,18 @@ fn opening_is_refused(rt: HostRuntime) {
         opening(&DATES, RATE, &HOLDINGS),
     ];
     let expected = [
-        Answer::Refused(Refusal::RegisterEmpty),
-        Answer::Refused(Refusal::BadDates),
-        Answer::Refused(Refusal::BadDates),
-        Answer::Refused(Refusal::RateTooHigh),
-        Answer::Refused(Refusal::BadHolderCount),
-        Answer::Refused(Refusal::BadNominal),
-        Answer::Refused(Refusal::BadNominal),
-        Answer::Accepted(1500),
-        Answer::Refused(Refusal::NotEmpty),
+        Err(Refusal::RegisterEmpty),
+        Err(Refusal::BadDates),
+        Err(Refusal::BadDates),
+        Err(Refusal::RateTooHigh),
+        Err(Refusal::BadHolderCount),
+        Err(Refusal::BadNominal),
+        Err(Refusal::BadNominal),
+        Ok(1500),
+        Err(Refusal::NotEmpty),
     ];
-    let mut answers = [Answer::Accepted(0); 9];
-    let _register = play(Actual360, &calls, &mut answers);
+    let mut answers = [Ok(0); 9];
+    let _register = play(actual_360(), &calls, &mut answers);
     for (answer, wanted) in answers.iter().zip(expected.iter()) {
         assert_eq!(rt; *answer, *wanted);
     }
@@ -80,26 +80,40 @@ fn two_periods(rt: HostRuntime) {
         Call::Pay { holder: 2 },
     ];
     let expected = [
-        Answer::Accepted(1500),
-        Answer::Refused(Refusal::DayOutOfPeriod),
-        Answer::Refused(Refusal::DayOutOfPeriod),
-        Answer::Refused(Refusal::UnknownHolder),
-        Answer::Refused(Refusal::SameHolder),
-        Answer::Refused(Refusal::BadAmount),
-        Answer::Accepted(30),
-        Answer::Accepted(45),
-        Answer::Accepted(0),
-        Answer::Accepted(500),
-        Answer::Accepted(30),
-        Answer::Accepted(30),
-        Answer::Refused(Refusal::RegisterClosed),
-        Answer::Accepted(60),
-        Answer::Accepted(15),
-        Answer::Refused(Refusal::UnknownHolder),
+        Ok(1500),
+        Err(Refusal::DayOutOfPeriod),
+        Err(Refusal::DayOutOfPeriod),
+        Err(Refusal::UnknownHolder),
+        Err(Refusal::SameHolder),
+        Err(Refusal::BadAmount),
+        Ok(30),
+        Ok(45),
+        Ok(0),
+        Ok(500),
+        Ok(30),
+        Ok(30),
+        Err(Refusal::RegisterClosed),
+        Ok(60),
+        Ok(15),
+        Err(Refusal::UnknownHolder),
     ];
-    let mut answers = [Answer::Accepted(0); 16];
-    let _register = play(Actual360, &calls, &mut answers);
+    let mut answers = [Ok(0); 16];
+    let _register = play(actual_360(), &calls, &mut answers);
     for (answer, wanted) in answers.iter().zip(expected.iter()) {
         assert_eq!(rt; *answer, *wanted);
     }
+}
+
+#[test]
+fn ticks_are_worth(rt: HostRuntime) {
+    let row = Row {
+        holding: 1000,
+        paid: 60,
+        due: 15,
+        ticks: 7,
+    };
+    assert_eq!(rt; ticks_per_unit(&actual_360()), 36_000_000);
+    assert_eq!(rt; row.worth(&actual_360()), 2_700_000_007);
+    assert_eq!(rt; ticks_per_unit(&actual_365()), 36_500_000);
+    assert_eq!(rt; row.worth(&actual_365()), 2_737_500_007);
 }

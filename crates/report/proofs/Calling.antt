@@ -13,9 +13,10 @@ use Rattle.text.specs.declared.line.Line.TheVariants.{Posting}
 use Rattle.report.specs.Deals.{numbered}
 use Rattle.report.specs.Parts.{part, call_in, lead, leading}
 use Rattle.report.specs.Printed.{answer_line}
-use Rattle.writing.specs.Laying.{Laid}
-use Rattle.writing.proofs.Lays.{laid_none}
 use Rattle.report.specs.Reports.{call_lines, opening_lines, Called, seen}
+use Rattle.report.specs.Pages.{LaidOn}
+use Rattle.report.specs.declared.page.Page.{Page}
+use Rattle.report.proofs.Pages.{on_none}
 
 -- a call that follows the rules leaves and answers what they say
 pub left_by_rule :
@@ -102,6 +103,6 @@ call_none count per v lines number i past =
 
 -- an opening that is accepted prints nothing
 pub nothing_printed :
-    (r : Result ℕ Told) (n line : ℕ) (buffer : List ℕ) (at : ℕ) → Ok n ≡ r → Laid (opening_lines r line) buffer at (Ok at) buffer
-nothing_printed r n line buffer at is =
-    subst (λ (s : Result ℕ Told). Laid (opening_lines s line) buffer at (Ok at) buffer) is (laid_none buffer at)
+    (r : Result ℕ Told) (n line : ℕ) (page : Page) → Ok n ≡ r → LaidOn (opening_lines r line) page (Ok tt) page
+nothing_printed r n line page is =
+    subst (λ (s : Result ℕ Told). LaidOn (opening_lines s line) page (Ok tt) page) is (on_none page)

@@ -30,9 +30,6 @@ no_terms : (l : Line) (o : Option Terms) → terms_in (part l) ≡ o → ((terms
 no_terms l None e not = refl
 no_terms l (Some terms) e not = absurd (not terms (deal_from_terms l terms e))
 
-pub no_terms_elsewhere : (l : Line) → ((terms : Terms) → l ≡ line.Deal terms → ⊥) → terms_in (part l) ≡ None
-no_terms_elsewhere l not = no_terms l (terms_in (part l)) refl not
-
 -- one place for each deal
 as_many_here :
     (o : Option Terms) (n i : ℕ) (ls : List Line) → length (starts_from (i + 1) ls) ≡ length (deals_from (n + 1) ls) →
@@ -54,9 +51,6 @@ fewer_here (Some terms) i ls h = omega arith
 fewer_deals : (i : ℕ) (lines : List Line) → length (starts_from i lines) ≤ length lines
 fewer_deals i [] = omega arith
 fewer_deals i (l ∷ ls) = fewer_here (terms_in (part l)) i ls (fewer_deals (i + 1) ls)
-
-pub starts_few : (lines : List Line) → length (starts_of lines) ≤ length lines
-starts_few lines = fewer_deals 0 lines
 
 -- the k-th deal of lines that are numbered from n on stands at this place among them
 record DealHere (n : ℕ) (lines : List Line) (k place : ℕ) : Type 0 where

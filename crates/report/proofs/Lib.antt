@@ -1,7 +1,6 @@
 pub mod Drafting
 pub mod Onward
 pub mod Calling
-pub mod Holders
 pub mod Fronts
 pub mod Whole
 pub mod GoodCount
@@ -17,3 +16,4 @@ pub mod Interest
 pub mod OpenText
 pub mod ReportLaws
 pub mod Reporting
+pub mod Pages

@@ -1,8 +1,8 @@
 -- A text that was read, as a ledger is opened with it.
 -- Assumes nothing.
-use Rattle.std.proofs.Common.{◌≡◌, ℕ, ◌+◌, ◌<◌, ◌≤◌, ltb, List, length, get_or, take, drop, Ok, Err, Result, sym, ap, ◌∙◌, subst, ⊎_elim, arith, MatchResult}
+use Rattle.std.proofs.Common.{◌≡◌, ℕ, ◌+◌, ◌<◌, ◌≤◌, List, length, get_or, take, drop, Ok, Err, Result, subst, ⊎_elim, arith, MatchResult}
 use Rattle.std.proofs.lemmas.List.{length-take-le}
-use Rattle.std.proofs.lemmas.Bool.{cases_lt, le-ltb, cond-false}
+use Rattle.std.proofs.lemmas.Bool.{cases_lt}
 use Rattle.text.specs.Laws.{TextLaw, GoodLines, Refused}
 use Rattle.text.specs.Marks.{start}
 use Rattle.text.specs.Meaning.{longest_text, meaning}
@@ -11,7 +11,6 @@ use Rattle.text.specs.Spelled.{written}
 use Rattle.text.specs.declared.fault.Fault.{Fault}
 use Rattle.text.specs.declared.line.Line.{Line}
 use Rattle.text.specs.declared.unread.Unread.{Unread}
-use Rattle.report.specs.Ledgers.{with_room, opened_text}
 use Rattle.report.specs.Deals.{starts_of}
 use Rattle.report.specs.Parts.{holding_in, leading}
 use Rattle.report.proofs.DealPlaces.{nth_deal, terms_from_deal}
@@ -34,18 +33,6 @@ read_well text table n after reads =
     (λ room. record { short = short; room = room; all = reads.fits short room })
     (cases_lt (length table) (line_count text)))
     (cases_lt longest_text (length text))
-
--- with room for the deals, the text is opened as its lines
-pub opened_well :
-    (text : List ℕ) (table : List Line) (n : ℕ) (after : List Line) (places : ℕ) → ReadWell text table n after → n ≤ places →
-    Ok (take n after) ≡ opened_text text (length table) places
-opened_well text table n after places well fits =
-    let few : length (take n after) ≤ places = omega (arith, length-take-le n after well.all.within) in
-    sym
-    (cond-false (ltb longest_text (length text)) _ _ (le-ltb longest_text (length text) well.short)
-    ∙ (cond-false (ltb (length table) (line_count text)) _ _ (le-ltb (length table) (line_count text) well.room)
-    ∙ (ap (with_room places) well.all.lines
-    ∙ cond-false (ltb places (length (take n after))) _ _ (le-ltb places (length (take n after)) few))))
 
 -- its lines are good, and at most as many as a text has bytes
 good_of :

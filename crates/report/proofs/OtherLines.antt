@@ -1,10 +1,10 @@
 -- A line that is not of one sort has nothing of it.
 -- Assumes nothing.
-use Rattle.std.proofs.Common.{◌≡◌, ℕ, ℤ, None, refl}
+use Rattle.std.proofs.Common.{◌≡◌, ℕ, None, refl}
 use Rattle.text.specs.declared.at.At.{At}
 use Rattle.text.specs.declared.line.Line.{Line}
 use Rattle.text.specs.declared.line.Line.TheVariants as line
-use Rattle.report.specs.Parts.{part, pattern_in, day_in, offset_in, holding_in}
+use Rattle.report.specs.Parts.{part, pattern_in, holding_in}
 
 pub no_pattern : (l : Line) → ((it : At ℕ) → l ≡ line.Pattern it → ⊥) → pattern_in (part l) ≡ None
 no_pattern line.Posting other = refl
@@ -17,30 +17,6 @@ no_pattern (line.Advance it) other = refl
 no_pattern (line.Transfer from to amount) other = refl
 no_pattern (line.Redemption holder amount) other = refl
 no_pattern (line.Payment it) other = refl
-
-pub no_closed_day : (l : Line) → ((it : At ℕ) → l ≡ line.ClosedDay it → ⊥) → day_in (part l) ≡ None
-no_closed_day line.Posting other = refl
-no_closed_day (line.Pattern it) other = refl
-no_closed_day (line.ClosedDay it) other = absurd (other it refl)
-no_closed_day (line.Offset it) other = refl
-no_closed_day (line.Deal it) other = refl
-no_closed_day (line.Holding it) other = refl
-no_closed_day (line.Advance it) other = refl
-no_closed_day (line.Transfer from to amount) other = refl
-no_closed_day (line.Redemption holder amount) other = refl
-no_closed_day (line.Payment it) other = refl
-
-pub no_offset : (l : Line) → ((it : At ℤ) → l ≡ line.Offset it → ⊥) → offset_in (part l) ≡ None
-no_offset line.Posting other = refl
-no_offset (line.Pattern it) other = refl
-no_offset (line.ClosedDay it) other = refl
-no_offset (line.Offset it) other = absurd (other it refl)
-no_offset (line.Deal it) other = refl
-no_offset (line.Holding it) other = refl
-no_offset (line.Advance it) other = refl
-no_offset (line.Transfer from to amount) other = refl
-no_offset (line.Redemption holder amount) other = refl
-no_offset (line.Payment it) other = refl
 
 pub no_holding : (l : Line) → ((it : At ℕ) → l ≡ line.Holding it → ⊥) → holding_in (part l) ≡ None
 no_holding line.Posting other = refl

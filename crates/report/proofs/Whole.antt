@@ -6,12 +6,13 @@ use Rattle.register.specs.Calls.{Call}
 use Rattle.register.specs.Rules.{View, rows_in_use}
 use Rattle.register.specs.declared.row.Row.{Row}
 use Rattle.register.specs.Runs.{fresh_view, run}
-use Rattle.writing.specs.Laying.{Laid}
 use Rattle.writing.specs.declared.laying.Full.{Full}
-use Rattle.writing.proofs.Lays.{laid_more, laid_stops, laid_same}
 use Rattle.report.specs.Deals.{numbered}
+use Rattle.report.specs.Pages.{LaidOn}
 use Rattle.report.specs.Printed.{st_lines}
+use Rattle.report.specs.declared.page.Page.{Page}
 use Rattle.report.specs.Reports.{played_lines, front_lines, front_view}
+use Rattle.report.proofs.Pages.{on_more, on_stops, on_same}
 
 pub numbered_calls : (n : ℕ) (calls : List Call) → map (λ c. c.call) (numbered n calls) ≡ calls
 numbered_calls n [] = refl
@@ -52,15 +53,13 @@ rows_are count per v v' n calls rows left are =
 
 -- a first part that did not fit, under another name
 pub first_stops :
-    (xs ys xs₁ : List (List ℕ)) (buffer : List ℕ) (at : ℕ) (after : List ℕ) (full : Full) → xs₁ ≡ xs →
-    Laid xs₁ buffer at (Err full) after → Laid (xs ++ ys) buffer at (Err full) after
-first_stops xs ys xs₁ buffer at after full is laid =
-    laid_stops xs ys buffer at full after (laid_same xs₁ xs buffer at (Err full) after is laid)
+    (xs ys xs₁ : List (List ℕ)) (a b : Page) (full : Full) → xs₁ ≡ xs → LaidOn xs₁ a (Err full) b →
+    LaidOn (xs ++ ys) a (Err full) b
+first_stops xs ys xs₁ a b full is laid = on_stops xs ys a b full (on_same xs₁ xs a b (Err full) is laid)
 
 -- two parts, under other names
 pub both_laid :
-    (xs ys xs₁ ys₁ : List (List ℕ)) (buffer mid after : List ℕ) (at end : ℕ) (r : Result ℕ Full) → xs₁ ≡ xs → ys₁ ≡ ys →
-    Laid xs₁ buffer at (Ok end) mid → Laid ys₁ mid end r after → Laid (xs ++ ys) buffer at r after
-both_laid xs ys xs₁ ys₁ buffer mid after at end r is are first second =
-    laid_more xs ys buffer at end mid r after (laid_same xs₁ xs buffer at (Ok end) mid is first)
-    (laid_same ys₁ ys mid end r after are second)
+    (xs ys xs₁ ys₁ : List (List ℕ)) (a b c : Page) (r : Result (Unit {0}) Full) → xs₁ ≡ xs → ys₁ ≡ ys →
+    LaidOn xs₁ a (Ok tt) b → LaidOn ys₁ b r c → LaidOn (xs ++ ys) a r c
+both_laid xs ys xs₁ ys₁ a b c r is are first second =
+    on_more xs ys a b c r (on_same xs₁ xs a b (Ok tt) is first) (on_same ys₁ ys b c r are second)

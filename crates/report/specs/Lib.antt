@@ -5,3 +5,4 @@ pub mod Reports
 pub mod Laws
 pub mod Ledgers
 pub mod Opened
+pub mod Pages

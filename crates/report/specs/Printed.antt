@@ -2,8 +2,7 @@
 -- Assumes nothing.
 use Rattle.std.specs.Prelude.{ℕ, ◌+◌, List, [], ◌∷◌, ◌++◌, Ok, Err, decimal, Result}
 use Rattle.days.specs.Refusals.{Told, told}
-use Rattle.days.specs.declared.refusal.Layer.{Layer}
-use Rattle.days.specs.declared.refusal.Layer.TheVariants.{Text, Calendar, Deal, Register}
+use Rattle.days.specs.Texts.{letter}
 use Rattle.register.specs.declared.row.Row.{Row}
 use Rattle.text.specs.declared.fault.Fault.{Fault}
 use Rattle.writing.specs.Spelling.{spelled_date}
@@ -25,13 +24,6 @@ sc_line index day = 83 ∷ 67 ∷ (field index ++ (space ∷ (spelled_date day +
 abbrev pub sc_lines : ℕ → List ℕ → List (List ℕ)
 sc_lines index [] = []
 sc_lines index (day ∷ days) = sc_line index day ∷ sc_lines (index + 1) days
-
--- T, C, D and R
-abbrev pub letter : Layer → ℕ
-letter Text = 84
-letter Calendar = 67
-letter Deal = 68
-letter Register = 82
 
 -- OK answer
 abbrev pub ok_line : ℕ → List ℕ

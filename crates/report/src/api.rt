@@ -1,57 +1,59 @@
 // A text opened as a ledger, and the reports of its deals.
 ghost use Rattle.std.specs.Prelude.{◌≡◌, ◌<◌, ◌≤◌, [], ◌∷◌, length, take, IfOk, MatchResult, slice_index};
-ghost use Rattle.text.specs.Laws.{TextLaw, GoodLines};
-ghost use Rattle.text.specs.Marks.{start};
+ghost use Rattle.text.specs.Laws.{TextLaw};
 ghost use Rattle.text.specs.Meaning.{meaning};
 ghost use Rattle.writing.specs.Laying.{Laid};
 ghost use Rattle.std.specs.List.{slice_get};
 ghost use Rattle.report.specs.Deals.{starts_of, deals_of};
-ghost use Rattle.report.specs.Ledgers.{opened_text, stopped_by, DealReported, Reported, LawOfReport};
-ghost use Rattle.report.specs.Opened.{unless_refused, opened};
+ghost use Rattle.report.specs.Ledgers.{opened_text, stopped_by, DealReported, ReportOf, Reported, LawOfReport};
+ghost use Rattle.report.specs.Opened.{lines_of, opened};
 ghost use Rattle.report.specs.Printed.{ft_line};
 
 use crate::closings::Closings;
-use crate::deal::lay_report;
+use crate::deal_text::DealText;
 use crate::drafts::fault_draft;
-use crate::ledger::Ledger;
+use crate::ledger::{Ledger, Opened};
 use crate::stopped::Stopped;
 use calendar::{DatedList, EasterRule, Union, WeekdayPattern};
 use days::Refusal;
 use text::{Fault, Line, Unread};
 use writing::{Full, lay};
 
-// Writes the places of the deals among the lines; answers how many there are.
-fn index_deals(lines: &[Line], deals: &mut [usize]) -> usize
-    requires { length lines.now ≤ length deals.old }
-    ensures within { result ≤ length deals.new }
-    ensures places { take result deals.new ≡ starts_of lines.now }
+// Writes the places of the deals among the lines into a table, and answers them. The caller lends the table, so its free
+// place is counted here. `gather` sees a line without its place, and does not serve.
+fn index_deals<'a>(lines: &[Line], table: &'a mut [usize]) -> &'a [usize]
+    requires { length lines.now ≤ length table.old }
+    ensures { result.now ≡ starts_of lines.now }
 {
     let mut count = 0;
-    for i in 0..lines.len() {
-        if let Line::Deal(_) = lines[i] {
-            deals[count] = i;
+    for (i, line) in lines.iter().enumerate() {
+        if let Line::Deal(_) = line {
+            table[count] = i;
             count += 1;
         }
     }
-    count
+    &table[..count]
 }
 
-// Reads a text into the table. Refused, no line counts.
-fn read_lines(text: &[u8], lines: &mut [Line], places: usize) -> (usize, Option<Unread>)
-    ensures within { (result.0 ≤ length lines.new) × (result.0 ≤ places) × (result.0 ≤ 65536) }
-    ensures opened { unless_refused result.1 (take result.0 lines.new) ≡ opened_text text.now (length lines.old) places }
-    ensures good { GoodLines start 1 (take result.0 lines.new) }
-    ensures law { TextLaw text.now (meaning text.now) }
-{
-    match text::read(text, lines) {
-        Ok(count) => {
-            if places < count {
-                (0, Some(Unread::NoRoom))
-            } else {
-                (count, None)
-            }
+impl<'a> Opened<'a> {
+    fn read(
+        text: &[u8],
+        lines: &'a mut [Line],
+        deals: &'a mut [usize],
+    ) -> Result<Opened<'a>, Unread>
+        ensures value { lines_of result ≡ opened_text text.now (length lines.old) (length deals.old) }
+        ensures law { TextLaw text.now (meaning text.now) }
+    {
+        let count = text::read(text, lines)?;
+        if deals.len() < count {
+            return Err(Unread::NoRoom);
         }
-        Err(unread) => (0, Some(unread)),
+        let lines = &lines[..count];
+        Ok(Opened {
+            lines,
+            deals: index_deals(lines, deals),
+            closings: Closings::of(lines),
+        })
     }
 }
 
@@ -63,14 +65,8 @@ impl<'a> Ledger<'a> {
         ensures value { opened result ≡ opened_text text.now (length lines.old) (length deals.old) }
         ensures law { TextLaw text.now (meaning text.now) }
     {
-        let (count, refused) = read_lines(text, lines, deals.len());
-        let lines = &lines[0..count];
-        let found = index_deals(lines, deals);
         Ledger {
-            lines,
-            deals: &deals[0..found],
-            closings: Closings::of(lines),
-            refused,
+            text: Opened::read(text, lines, deals),
         }
     }
 }
@@ -81,13 +77,13 @@ impl Closings {
     // The set of closed days: what the Easter rule, the list or the pattern closes.
     fn set(&self) -> ClosedSet<'_>
         ensures easter { result.first ≡ self.now.easter }
-        ensures days { result.second.first.days.now ≡ take self.now.count self.now.days }
+        ensures days { result.second.first.days.now ≡ self.now.days }
         ensures pattern { result.second.second ≡ self.now.pattern }
     {
         Union {
             first: self.easter,
             second: Union {
-                first: DatedList::new(&self.days[0..self.count]),
+                first: DatedList::new(self.days.as_slice()),
                 second: self.pattern,
             },
         }
@@ -107,7 +103,7 @@ fn stopped(refusal: Refusal, written: usize) -> Stopped
     }
 }
 
-impl Ledger<'_> {
+impl Opened<'_> {
     // Where among the lines a deal stands.
     fn place_of(&self, deal: usize) -> usize
         requires { deal < length self.now.deals.now }
@@ -126,17 +122,32 @@ impl Ledger<'_> {
     {
         let at = self.place_of(deal);
         match &self.lines[at] {
-            Line::Deal(terms) => lay_report(
-                terms,
-                &self.closings.set(),
-                at as u32 + 1,
-                &self.lines[at + 1..],
-                out,
-            ),
+            Line::Deal(terms) => {
+                let deal = DealText {
+                    terms,
+                    number: at as u32 + 1,
+                    behind: &self.lines[at + 1..],
+                };
+                deal.report(&self.closings.set(), out)
+            }
             _ => unreachable(),
         }
     }
 
+    // The report of a deal, if there is one.
+    fn report(&self, deal: usize, out: &mut [u8]) -> Result<usize, Stopped>
+        ensures rule { ReportOf self.now.lines.now (slice_get (deals_of self.now.lines.now) deal) out.old result out.new }
+        ensures within { MatchResult result (λ end. end ≤ length out.new) (λ stopped. stopped.written ≤ length out.new) }
+    {
+        if deal >= self.deals.len() {
+            return Err(stopped(Refusal::NoSuchDeal, 0));
+        }
+        self.lay_deal_report(deal, out)
+            .map_err(|full| stopped(Refusal::BufferFull, full.written))
+    }
+}
+
+impl Ledger<'_> {
     // Lays the report of a deal, counted from 0, into the buffer, and answers how many bytes it has. Bytes beyond them stay.
     // Refused are, the first of these: a text that was refused, with nothing written; a deal that there is not, with
     // nothing written; and a line that does not fit the buffer, with the whole lines before it written.
@@ -145,15 +156,12 @@ impl Ledger<'_> {
         ensures law { LawOfReport (opened self.now) deal }
         ensures within { MatchResult result (λ end. end ≤ length out.new) (λ stopped. stopped.written ≤ length out.new) }
     {
-        if let Some(why) = self.refused {
-            return Err(Stopped { why, written: 0 });
-        }
-        if deal >= self.deals.len() {
-            return Err(stopped(Refusal::NoSuchDeal, 0));
-        }
-        match self.lay_deal_report(deal, out) {
-            Ok(end) => Ok(end),
-            Err(full) => Err(stopped(Refusal::BufferFull, full.written)),
+        match &self.text {
+            Ok(opened) => opened.report(deal, out),
+            Err(why) => Err(Stopped {
+                why: *why,
+                written: 0,
+            }),
         }
     }
 }

@@ -1,7 +1,6 @@
 // The closed days of a text: an Easter rule, a list of dates and a weekday pattern.
-ghost use Rattle.std.specs.Prelude.{◌≡◌, ◌≤◌, length};
-
 use calendar::{EasterRule, WeekdayPattern};
+use shortlist::ShortList;
 
 // As many closed dates as a text has at the most.
 pub(crate) const MOST_DATES: usize = 512;
@@ -10,8 +9,5 @@ pub(crate) const MOST_DATES: usize = 512;
 pub(crate) struct Closings {
     pub(crate) easter: EasterRule,
     pub(crate) pattern: WeekdayPattern,
-    pub(crate) days: [u32; 512],
-    pub(crate) count: usize,
-    ghost room: { length days ≡ 512 },
-    ghost few: { count ≤ 512 },
+    pub(crate) days: ShortList<u32, MOST_DATES>,
 }

@@ -1,39 +1,28 @@
-// The lines of a report, each as a draft.
+// The lines of a report, each as a draft. They are put together by a draft's own methods: `write!` answers a Result, whose
+// clauses say nothing of an Err, and a draft never fails.
 ghost use Rattle.std.specs.Prelude.{◌≡◌, ◌≤◌, ◌∷◌, ◌++◌, length, take};
 ghost use Rattle.days.specs.Refusals.{told};
-ghost use Rattle.writing.specs.Drafts.{text_of};
-ghost use Rattle.report.specs.Printed.{field, letter, sc_line, ok_line, no_line, answer_line, st_line, ft_line};
+ghost use Rattle.report.specs.Printed.{field, sc_line, ok_line, no_line, answer_line, st_line, ft_line};
 ghost use Rattle.report.specs.Reports.{seen};
 
-use days::{Layer, Refusal};
+use days::Refusal;
 use register::Row;
 use text::Fault;
 use writing::Draft;
 
 // A space and a number, which has at most twenty digits.
 fn put_field(line: &mut Draft, n: u64)
-    ensures text { text_of line.new ≡ take 128 (text_of line.old ++ field n) }
+    ensures text { line.new ≡ take 128 (line.old ++ field n) }
     ensures short { length (field n) ≤ 21 }
 {
     line.push(b' ');
     line.number(n);
 }
 
-fn letter_of(layer: Layer) -> u8
-    ensures { result ≡ letter layer }
-{
-    match layer {
-        Layer::Text => b'T',
-        Layer::Calendar => b'C',
-        Layer::Deal => b'D',
-        Layer::Register => b'R',
-    }
-}
-
 // SC index date
 pub(crate) fn date_draft(index: u64, day: u32) -> Draft
     requires { day ≤ 109572 }
-    ensures { text_of result ≡ sc_line index day }
+    ensures { result ≡ sc_line index day }
 {
     let mut line = Draft::new();
     line.word(b"SC");
@@ -46,7 +35,7 @@ pub(crate) fn date_draft(index: u64, day: u32) -> Draft
 
 // OK answer
 pub(crate) fn accepted_draft(answer: u64) -> Draft
-    ensures { text_of result ≡ ok_line answer }
+    ensures { result ≡ ok_line answer }
 {
     let mut line = Draft::new();
     line.word(b"OK");
@@ -57,13 +46,13 @@ pub(crate) fn accepted_draft(answer: u64) -> Draft
 
 // NO number layer place line
 pub(crate) fn refused_draft(refusal: Refusal, number: u32) -> Draft
-    ensures { text_of result ≡ no_line (told refusal) number }
+    ensures { result ≡ no_line (told refusal) number }
 {
     let mut line = Draft::new();
     line.word(b"NO");
     put_field(&mut line, refusal.number() as u64);
     line.push(b' ');
-    line.push(letter_of(refusal.layer()));
+    line.push(refusal.layer().letter() as u8);
     put_field(&mut line, refusal.place() as u64);
     put_field(&mut line, number as u64);
     line.push(b'\n');
@@ -72,7 +61,7 @@ pub(crate) fn refused_draft(refusal: Refusal, number: u32) -> Draft
 
 // ST holder holding paid due ticks
 pub(crate) fn row_draft(holder: u64, row: &Row) -> Draft
-    ensures { text_of result ≡ st_line holder row.now }
+    ensures { result ≡ st_line holder row.now }
 {
     let mut line = Draft::new();
     line.word(b"ST");
@@ -87,7 +76,7 @@ pub(crate) fn row_draft(holder: u64, row: &Row) -> Draft
 
 // FT number line column
 pub(crate) fn fault_draft(fault: &Fault) -> Draft
-    ensures { text_of result ≡ ft_line fault.now }
+    ensures { result ≡ ft_line fault.now }
 {
     let mut line = Draft::new();
     line.word(b"FT");
@@ -100,7 +89,7 @@ pub(crate) fn fault_draft(fault: &Fault) -> Draft
 
 // The answer to a call on the line with this number.
 pub(crate) fn answer_draft(answer: Result<u64, Refusal>, number: u32) -> Draft
-    ensures { text_of result ≡ answer_line (seen answer) number }
+    ensures { result ≡ answer_line (seen answer) number }
 {
     match answer {
         Ok(n) => accepted_draft(n),

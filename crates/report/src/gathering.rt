@@ -1,10 +1,13 @@
 // The closed days of a text, gathered from its lines.
-ghost use Rattle.std.specs.Prelude.{◌≡◌, ◌<◌, ◌≤◌, true, length, take, count_ones};
+ghost use Rattle.std.specs.Prelude.{◌≡◌, ◌<◌, ◌≤◌, true, length, Option, count_ones};
+ghost use Rattle.std.specs.Fn.{FnReturnsAt};
 ghost use Rattle.calendar.specs.Kinds.{all_within_sixty};
-ghost use Rattle.report.specs.Parts.{mask_of, days_of, offsets_of};
+ghost use Rattle.text.specs.declared.line.Line.{Line};
+ghost use Rattle.report.specs.Parts.{Part, part, gathered, mask_of, days_of, offsets_of};
 
-use crate::closings::{Closings, MOST_DATES};
+use crate::closings::Closings;
 use calendar::{EasterRule, WeekdayPattern};
+use shortlist::{Blank, ShortList};
 use text::Line;
 
 const MOST_OFFSETS: usize = 8;
@@ -21,60 +24,44 @@ fn mask_of(lines: &[Line]) -> u8
     0
 }
 
-// Copies the closed dates; answers how many there are.
-fn copy_days(lines: &[Line], days: &mut [u32]) -> usize
-    requires { length (days_of lines.now) ≤ length days.old }
-    ensures within { result ≤ length days.new }
-    ensures copied { take result days.new ≡ days_of lines.now }
+// Gathers what is found in the lines, which there is room for.
+fn gather<T: Blank, const N: usize, F: Fn(&Line) -> Option<T>>(
+    lines: &[Line],
+    find: F,
+) -> ShortList<T, N>
+    ghost found: { Part → Option T }
+    requires callable { F.IsAlwaysCallable find }
+    requires finds { (line : Line) (o : Option T) → FnReturnsAt F.Fn find line o → o ≡ found (part line) }
+    requires room { length (gathered found lines.now) ≤ N }
+    ensures { result ≡ gathered found lines.now }
 {
-    let mut count = 0;
+    let mut all = ShortList::new();
     for line in lines {
-        if let Line::ClosedDay(day) = line {
-            days[count] = day.value;
-            count += 1;
+        if let Some(item) = find(line) {
+            let _ = all.push(item);
         }
     }
-    count
-}
-
-// Copies the offsets from Easter; answers how many there are.
-fn copy_offsets(lines: &[Line], offsets: &mut [i32]) -> usize
-    requires { length (offsets_of lines.now) ≤ length offsets.old }
-    ensures within { result ≤ length offsets.new }
-    ensures copied { take result offsets.new ≡ offsets_of lines.now }
-{
-    let mut count = 0;
-    for line in lines {
-        if let Line::Offset(offset) = line {
-            offsets[count] = offset.value;
-            count += 1;
-        }
-    }
-    count
+    all
 }
 
 fn easter_rule(lines: &[Line]) -> EasterRule
     requires few { length (offsets_of lines.now) ≤ 8 }
     requires near { all_within_sixty (offsets_of lines.now) ≡ true }
-    ensures { take result.count result.offsets ≡ offsets_of lines.now }
+    ensures { result ≡ offsets_of lines.now }
 {
-    let mut offsets = [0; MOST_OFFSETS];
-    let count = copy_offsets(lines, &mut offsets);
-    match EasterRule::new(&offsets[0..count]) {
-        Ok(rule) => rule,
-        Err(_) => unreachable(),
-    }
+    let offsets: ShortList<i32, MOST_OFFSETS> = gather(lines, |line| match line {
+        Line::Offset(offset) => Some(offset.value),
+        _ => None,
+    });
+    EasterRule::new(offsets.as_slice()).unwrap()
 }
 
 fn weekday_pattern(lines: &[Line]) -> WeekdayPattern
     requires small { mask_of lines.now < 128 }
     requires opens { count_ones (mask_of lines.now) ≤ 6 }
-    ensures { result.mask ≡ mask_of lines.now }
+    ensures { result ≡ mask_of lines.now }
 {
-    match WeekdayPattern::new(mask_of(lines)) {
-        Ok(pattern) => pattern,
-        Err(_) => unreachable(),
-    }
+    WeekdayPattern::new(mask_of(lines)).unwrap()
 }
 
 impl Closings {
@@ -85,17 +72,17 @@ impl Closings {
         requires days { length (days_of lines.now) ≤ 512 }
         requires few { length (offsets_of lines.now) ≤ 8 }
         requires near { all_within_sixty (offsets_of lines.now) ≡ true }
-        ensures mask { result.pattern.mask ≡ mask_of lines.now }
-        ensures days { take result.count result.days ≡ days_of lines.now }
-        ensures offsets { take result.easter.count result.easter.offsets ≡ offsets_of lines.now }
+        ensures mask { result.pattern ≡ mask_of lines.now }
+        ensures days { result.days ≡ days_of lines.now }
+        ensures offsets { result.easter ≡ offsets_of lines.now }
     {
-        let mut days = [0; MOST_DATES];
-        let count = copy_days(lines, &mut days);
         Closings {
             easter: easter_rule(lines),
             pattern: weekday_pattern(lines),
-            days,
-            count,
+            days: gather(lines, |line| match line {
+                Line::ClosedDay(day) => Some(day.value),
+                _ => None,
+            }),
         }
     }
 }

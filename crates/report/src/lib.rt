@@ -5,9 +5,11 @@ mod api;
 mod calls;
 mod closings;
 mod deal;
+mod deal_text;
 mod drafts;
 mod gathering;
 mod ledger;
+mod page;
 mod segments;
 mod stopped;
 

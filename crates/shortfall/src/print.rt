@@ -1,26 +1,18 @@
 // What is printed: the counts, the sale, and what becomes of it either way.
 use crate::sale::Sale;
-use crate::shares::{NOMINAL, RATE, Shares, ticks_of, ticks_per_unit};
+use crate::shares::{NOMINAL, RATE, Shares, ticks_of};
 use counts::{BondBasis, DayCount};
-use days::{Layer, Refusal, date_of};
-use std::{fmt, io};
-
-// A day as its date.
-#[derive(Clone, Copy)]
-struct Shown(u32);
-
-impl fmt::Display for Shown {
-    fn fmt<W: fmt::Write>(&self, f: &mut fmt::Formatter<W>) -> fmt::Result {
-        match date_of(self.0) {
-            Some((year, month, day)) => write!(f, "{year:04}-{month:02}-{day:02}"),
-            None => f.pad("none"),
-        }
-    }
-}
+use days::{Date, DateOrNone, Refusal};
+use register::ticks_per_unit;
+use std::io;
 
 fn print_count(rt: &HostRuntime, from: u32, to: u32) -> io::Result<()> {
     let days = BondBasis.count(from, to);
-    println!(rt; "  {}  {}  {days:>4}", Shown(from), Shown(to))
+    println!(rt;
+        "  {}  {}  {days:>4}",
+        DateOrNone(Date::of(from)),
+        DateOrNone(Date::of(to))
+    )
 }
 
 pub fn print_counts(rt: &HostRuntime, sale: &Sale) -> io::Result<()> {
@@ -39,34 +31,22 @@ pub fn print_counts(rt: &HostRuntime, sale: &Sale) -> io::Result<()> {
 pub fn print_sale(rt: &HostRuntime, sale: &Sale) -> io::Result<()> {
     println!(rt;
         "A bond of {NOMINAL} runs from {} to {} at {RATE}/100000 a year.",
-        Shown(sale.issue),
-        Shown(sale.maturity)
+        DateOrNone(Date::of(sale.issue)),
+        DateOrNone(Date::of(sale.maturity))
     )?;
     println!(rt;
         "On {} holder 0 transfers all of it to holder 1.",
-        Shown(sale.sold)
+        DateOrNone(Date::of(sale.sold))
     )?;
     println!(rt;
         "Interest to {} in ticks, of which {} are one minor unit:",
-        Shown(sale.seen),
-        ticks_per_unit()
+        DateOrNone(Date::of(sale.seen)),
+        ticks_per_unit(&BondBasis)
     )
 }
 
-fn letter_of(layer: Layer) -> char {
-    match layer {
-        Layer::Text => 'T',
-        Layer::Calendar => 'C',
-        Layer::Deal => 'D',
-        Layer::Register => 'R',
-    }
-}
-
 pub fn print_refusal(rt: &HostRuntime, refusal: Refusal) -> io::Result<()> {
-    let number = refusal.number();
-    let layer = letter_of(refusal.layer());
-    let place = refusal.place();
-    println!(rt; "  refused: {number}, layer {layer}, place {place}")
+    println!(rt; "  refused: {refusal}")
 }
 
 fn print_shares(rt: &HostRuntime, added: &Shares, kept: &Shares) -> io::Result<()> {

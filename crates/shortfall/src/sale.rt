@@ -5,7 +5,7 @@ ghost use Rattle.counts.specs.Counting.{asked};
 
 use crate::shares::{NOMINAL, RATE, Shares, ticks_of, worth_at};
 use counts::{BondBasis, DayCount};
-use days::{Refusal, day_number};
+use days::{Date, Refusal};
 use register::Register;
 
 #[derive(Clone, Copy)]
@@ -21,10 +21,10 @@ impl Sale {
     // Absent only if one of these is no date.
     pub fn in_january() -> Option<Sale> {
         Some(Sale {
-            issue: day_number(2023, 1, 29)?,
-            sold: day_number(2023, 1, 30)?,
-            seen: day_number(2023, 1, 31)?,
-            maturity: day_number(2023, 7, 29)?,
+            issue: Date::new(2023, 1, 29).number()?,
+            sold: Date::new(2023, 1, 30).number()?,
+            seen: Date::new(2023, 1, 31).number()?,
+            maturity: Date::new(2023, 7, 29).number()?,
         })
     }
 

@@ -3,7 +3,7 @@ ghost use Rattle.std.specs.Prelude.{◌≡◌, ◌+◌, ◌-◌, ◌*◌, ◌^�
 ghost use Rattle.register.specs.Rows.{at, worth};
 ghost use Rattle.register.specs.Rules.{unit};
 
-use counts::{BondBasis, DayCount};
+use counts::BondBasis;
 use register::Row;
 
 // In 1/100,000 a year.
@@ -12,16 +12,6 @@ pub const RATE: u64 = 5_000;
 // In minor units.
 pub const NOMINAL: u64 = 1_000_000;
 
-// A rate is in parts of this.
-const PARTS: u64 = 100_000;
-
-// So many ticks are one minor unit.
-pub fn ticks_per_unit() -> u64
-    ensures { result ≡ unit 360 }
-{
-    PARTS * BondBasis.per_year() as u64
-}
-
 // What the whole nominal makes in so many counted days.
 pub fn ticks_of(days: u32) -> u128
     ensures { result ≡ 1000000 * 5000 * days }
@@ -29,20 +19,11 @@ pub fn ticks_of(days: u32) -> u128
     NOMINAL as u128 * RATE as u128 * days as u128
 }
 
-fn worth_of(row: &Row) -> u128
-    ensures { result ≡ worth (unit 360) row.now }
-{
-    (row.paid as u128 + row.due as u128) * ticks_per_unit() as u128 + row.ticks as u128
-}
-
 // What a holder was paid, is due and carries; nothing for one that the rows do not have.
 pub fn worth_at(rows: &[Row], holder: usize) -> u128
     ensures { result ≡ worth (unit 360) (at rows.now holder) }
 {
-    match rows.get(holder) {
-        Some(row) => worth_of(row),
-        None => 0,
-    }
+    rows.get(holder).map_or(0, |row| row.worth(&BondBasis))
 }
 
 // The counted days in all, and what each of the two has of them.

@@ -3,6 +3,7 @@
 use Rattle.std.proofs.Common.{◌≡◌, ℕ, ◌+◌, ◌-◌, ◌≤◌, Bool, true, false, cond, List, [], ◌∷◌, refl, arith}
 use Rattle.std.proofs.lemmas.Bool.{false≢true, leb-false}
 use Rattle.text.specs.declared.line.Line.{Line}
+use Rattle.text.specs.declared.standing.CalendarLines.{CalendarLines}
 use Rattle.text.specs.declared.standing.Standing.{Standing}
 use Rattle.text.specs.declared.standing.Standing.TheVariants.{InCalendar, InHoldings, InCalls}
 use Rattle.text.specs.Laws.{GoodLines, MayStand}
@@ -15,8 +16,8 @@ NoneOf a b c = (a ≡ 0) × (b ≡ 0) × (c ≡ 0)
 
 -- so many patterns, closed days and offsets still have room where a line stands
 abbrev HasRoom : Standing → ℕ → ℕ → ℕ → Type 0
-HasRoom (InCalendar has_pattern days offsets) a b c =
-    (a ≤ cond has_pattern 0 1) × (b ≤ most_closed_days - days) × (c ≤ most_offsets - offsets)
+HasRoom (InCalendar seen) a b c =
+    (a ≤ cond seen.has_pattern 0 1) × (b ≤ most_closed_days - seen.dates) × (c ≤ most_offsets - seen.offsets)
 HasRoom (InHoldings count) a b c = NoneOf a b c
 HasRoom InCalls a b c = NoneOf a b c
 
@@ -28,21 +29,25 @@ HasRoomWith standing r a b c =
 none_more : (a b c : ℕ) → NoneOf a b c → NoneOf (0 + a) (0 + b) (0 + c)
 none_more a b c none = (omega (arith, none.0), omega (arith, none.1), omega (arith, none.2))
 
+no_pattern :
+    (has_pattern : Bool) (a : ℕ) → allowed_in_calendar has_pattern a_pattern ≡ true → a ≤ 0 → 1 + a ≤ cond has_pattern 0 1
+no_pattern true a ok later = absurd (false≢true ok)
+no_pattern false a ok later = omega arith
+
 room_in_calendar :
-    (has_pattern : Bool) (days offsets : ℕ) (r : Role) (a b c : ℕ) → allowed_in_calendar has_pattern r ≡ true →
-    full_of days offsets 0 r ≡ false → HasRoom (after_calendar has_pattern days offsets r) a b c →
-    HasRoomWith (InCalendar has_pattern days offsets) r a b c
-room_in_calendar true days offsets a_pattern a b c ok room later = absurd (false≢true ok)
-room_in_calendar false days offsets a_pattern a b c ok room later =
+    (seen : CalendarLines) (r : Role) (a b c : ℕ) → allowed_in_calendar seen.has_pattern r ≡ true →
+    full_of seen.dates seen.offsets 0 r ≡ false → HasRoom (after_calendar seen r) a b c →
+    HasRoomWith (InCalendar seen) r a b c
+room_in_calendar seen a_pattern a b c ok room later =
+    (no_pattern seen.has_pattern a ok later.0, omega (arith, later.1), omega (arith, later.2))
+room_in_calendar seen a_closed_day a b c ok room later =
+    (omega (arith, later.0), omega (arith, later.1, leb-false most_closed_days seen.dates room), omega (arith, later.2))
+room_in_calendar seen an_offset a b c ok room later =
+    (omega (arith, later.0), omega (arith, later.1), omega (arith, later.2, leb-false most_offsets seen.offsets room))
+room_in_calendar seen a_deal a b c ok room later =
     (omega (arith, later.0), omega (arith, later.1), omega (arith, later.2))
-room_in_calendar has_pattern days offsets a_closed_day a b c ok room later =
-    (omega (arith, later.0), omega (arith, later.1, leb-false most_closed_days days room), omega (arith, later.2))
-room_in_calendar has_pattern days offsets an_offset a b c ok room later =
-    (omega (arith, later.0), omega (arith, later.1), omega (arith, later.2, leb-false most_offsets offsets room))
-room_in_calendar has_pattern days offsets a_deal a b c ok room later =
-    (omega (arith, later.0), omega (arith, later.1), omega (arith, later.2))
-room_in_calendar has_pattern days offsets a_holding a b c ok room later = absurd (false≢true ok)
-room_in_calendar has_pattern days offsets a_call a b c ok room later = absurd (false≢true ok)
+room_in_calendar seen a_holding a b c ok room later = absurd (false≢true ok)
+room_in_calendar seen a_call a b c ok room later = absurd (false≢true ok)
 
 -- behind a deal no line of the calendar is allowed; one more holding leaves no room for any either
 room_in_deal :
@@ -58,15 +63,15 @@ room_in_deal before_calls one_more a_call a b c none ok later = none_more a b c 
 room_more :
     (standing : Standing) (l : Line) (a b c : ℕ) → MayStand standing l → HasRoom (next standing (mark_from l)) a b c →
     HasRoomWith standing (role (mark_from l)) a b c
-room_more (InCalendar has_pattern days offsets) l a b c stands later =
-    room_in_calendar has_pattern days offsets (role (mark_from l)) a b c stands.is_allowed stands.has_room later
+room_more (InCalendar seen) l a b c stands later =
+    room_in_calendar seen (role (mark_from l)) a b c stands.is_allowed stands.has_room later
 room_more (InHoldings count) l a b c stands later =
     room_in_deal true (InHoldings (count + 1)) (role (mark_from l)) a b c (λ h. h) stands.is_allowed later
 room_more InCalls l a b c stands later =
     room_in_deal false InCalls (role (mark_from l)) a b c (λ h. h) stands.is_allowed later
 
 room_for_none : (standing : Standing) → HasRoom standing 0 0 0
-room_for_none (InCalendar has_pattern days offsets) = (omega arith, omega arith, omega arith)
+room_for_none (InCalendar seen) = (omega arith, omega arith, omega arith)
 room_for_none (InHoldings count) = (refl, refl, refl)
 room_for_none InCalls = (refl, refl, refl)
 

@@ -49,7 +49,7 @@ test_from_date y m d is =
 -- the day that a date says is spelled by that date
 day_from_settled : (o : Option ℕ) (n : ℕ) → day_settled o ≡ Ok n → o ≡ Some n
 day_from_settled (Some day) n e = ap Some (same_from_ok e)
-day_from_settled None n e = absurd (let z : ◌≡◌ {A = ℕ} 0 1 = cc in omega arith)
+day_from_settled None n e = cc
 
 day_spelled : (y m d n : ℕ) → day_said y m d ≡ Some n → (spelled_date n ≡ dated y m d) × (n ≤ last_day)
 unfolding spelled_date

@@ -1,12 +1,12 @@
 -- How a date is read from its three parts.
 -- Assumes nothing.
-use Rattle.std.proofs.Common.{◌≡◌, ℕ, true, false, ◌&&◌, eqb, leb, ◌⊎◌, List, length, get_or, take, drop, Some, None, Option, sym, refl, ap, ◌∙◌, inl, inr, arith, length-drop, MatchOption}
+use Rattle.std.proofs.Common.{◌≡◌, ℕ, true, false, ◌&&◌, leb, List, length, get_or, take, drop, Some, None, Option, sym, refl, ap, ◌∙◌, inl, inr, arith, length-drop, MatchOption}
 use Rattle.std.proofs.lemmas.List.{take_all}
 use Rattle.std.specs.Str.{all_ascii_digits}
-use Rattle.std.proofs.lemmas.Bool.{and_parts, and_from, leb-true, le-leb, eq-eqb, ne_eqb, and_left, and_right, cases_Bool, cond-true, cond-false}
+use Rattle.std.proofs.lemmas.Bool.{and_parts, and_from, leb-true, le-leb, eq-eqb, cases_Bool, cond-true, cond-false}
 use Rattle.days.specs.Calendar.{first_year, last_year, month_length, IsDate, number_of}
 use Rattle.days.proofs.Checks.{some_tells}
-use Rattle.text.specs.Kinds.{is_date, day_said, is_dated, date_said, read_on, year_part, month_part, day_part}
+use Rattle.text.specs.Kinds.{is_date, day_said, date_said, read_on, year_part, month_part, day_part}
 use Rattle.text.specs.Words.{digits_from}
 
 date_from_test : (y m d : ℕ) → is_date y m d ≡ true → IsDate y m d
@@ -50,23 +50,13 @@ day_found y m d (Some n) h =
 -- three parts of digits, between two hyphens
 pub date_by_parts :
     (word : List ℕ) (y m d : ℕ) → length word ≡ 10 → get_or word 4 0 ≡ 45 → get_or word 7 0 ≡ 45 →
-    Some y ≡ digits_from 0 (year_part word) → Some m ≡ digits_from 0 (month_part word) →
-    Some d ≡ digits_from 0 (day_part word) → Some (day_said y m d) ≡ date_said word
+    Some y ≡ digits_from 10 0 (year_part word) → Some m ≡ digits_from 10 0 (month_part word) →
+    Some d ≡ digits_from 10 0 (day_part word) → Some (day_said y m d) ≡ date_said word
 date_by_parts word y m d ten four seven ys ms ds =
     let a = some_tells (all_ascii_digits (year_part word)) y (read_on 0 (year_part word)) ys in
     let b = some_tells (all_ascii_digits (month_part word)) m (read_on 0 (month_part word)) ms in
     let e = some_tells (all_ascii_digits (day_part word)) d (read_on 0 (day_part word)) ds in
     rw (eq-eqb (length word) 10 ten, eq-eqb (get_or word 4 0) 45 four, eq-eqb (get_or word 7 0) 45 seven, a.0, b.0, e.0, a.1, b.1, e.1) refl
-
-pub wrong_length : (word : List ℕ) → (length word ≡ 10 → ⊥) → None ≡ date_said word
-wrong_length word other = rw (ne_eqb (length word) 10 other) refl
-
-pub no_hyphen : (word : List ℕ) → (get_or word 4 0 ≡ 45 → ⊥) ⊎ (get_or word 7 0 ≡ 45 → ⊥) → None ≡ date_said word
-no_hyphen word other = sym (cond-false (is_dated word) _ None (and_left (eqb (length word) 10 && (eqb (get_or word 4 0) 45 && eqb (get_or word 7 0) 45)) _ (and_right (eqb (length word) 10) _ (hyphens_fail other))))
-  where
-    hyphens_fail : (get_or word 4 0 ≡ 45 → ⊥) ⊎ (get_or word 7 0 ≡ 45 → ⊥) → (eqb (get_or word 4 0) 45 && eqb (get_or word 7 0) 45) ≡ false
-    hyphens_fail (inl four) = and_left (eqb (get_or word 4 0) 45) (eqb (get_or word 7 0) 45) (ne_eqb (get_or word 4 0) 45 four)
-    hyphens_fail (inr seven) = and_right (eqb (get_or word 4 0) 45) (eqb (get_or word 7 0) 45) (ne_eqb (get_or word 7 0) 45 seven)
 
 -- the last two of ten bytes
 pub last_part : (word : List ℕ) → length word ≡ 10 → take 2 (drop 8 word) ≡ day_part word

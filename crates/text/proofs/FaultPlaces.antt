@@ -10,13 +10,13 @@ use Rattle.text.specs.Fields.{fault, placed, Each, Ending, read_word, and_then, 
 use Rattle.text.specs.Kinds.{Kind, Said, Value, said, settled}
 use Rattle.text.specs.Lines.{format, unless_full, body_of, known, marked, line_of}
 use Rattle.text.specs.Marks.{mark_of, allowed, full}
-use Rattle.text.proofs.FieldSteps.{err_same, never_both, first_read}
+use Rattle.text.proofs.FieldSteps.{err_same, first_read}
 
 abbrev pub FaultsOn : {A : Type 0} → ℕ → Result A Fault → Type 0
 FaultsOn line r = (found : Fault) → r ≡ Err found → found.line ≡ line
 
 none_on : {A : Type 0} (line : ℕ) (a : A) → FaultsOn line (Ok a)
-none_on line a found e = absurd (never_both a found e)
+none_on line a found e = cc
 
 one_on : {A : Type 0} (refusal : Refusal) (line column : ℕ) → FaultsOn {A = A} line (Err (fault refusal line column))
 one_on refusal line column found e = sym (ap (λ (x : Fault). x.line) (err_same (fault refusal line column) found e))
@@ -36,14 +36,14 @@ read_on_line :
     (kinds : List Kind) (end : Ending) (later : List Word) (read : Each Said kinds) → fields kinds end later ≡ Ok read →
     OnLine end.line kinds read
 read_on_line [] end later read e = tt
-read_on_line (kind ∷ kinds) end [] read e = absurd (never_both _ _ (sym e))
+read_on_line (kind ∷ kinds) end [] read e = cc
 read_on_line (kind ∷ kinds) end (word ∷ later) read e =
     let first = first_read kind kinds end word later read e in
     (ap (λ x. x.line) first.first_is, read_on_line kinds end later read.1 first.others_are)
 
 word_faults_on :
     (kind : Kind) (line : ℕ) (word : Word) (later : List Word) (o : Option (Said kind)) →
-    FaultsOn line (read_word kind line word later o)
+    FaultsOn line (read_word line word later o)
 word_faults_on kind line word later None = one_on _ line word.column
 word_faults_on kind line word later (Some s) = none_on line _
 
@@ -52,7 +52,7 @@ fields_fault_on [] end [] = none_on end.line tt
 fields_fault_on [] end (word ∷ later) = one_on _ end.line word.column
 fields_fault_on (kind ∷ kinds) end [] = one_on _ end.line end.column
 fields_fault_on (kind ∷ kinds) end (word ∷ later) =
-    then_on end.line (read_word kind end.line word later (said kind word.bytes))
+    then_on end.line (read_word end.line word later (said kind word.bytes))
     (λ read. and_then (fields kinds end read.1) (λ others. Ok (read.0, others)))
     (word_faults_on kind end.line word later (said kind word.bytes))
     (λ read is.
@@ -61,7 +61,7 @@ fields_fault_on (kind ∷ kinds) end (word ∷ later) =
 
 settle_at_on :
     (kind : Kind) (line column : ℕ) (s : Said kind) (r : Result (Value kind) Refusal) →
-    FaultsOn line (settle_at kind (placed s line column) r)
+    FaultsOn line (settle_at (placed s line column) r)
 settle_at_on kind line column s (Ok v) = none_on line _
 settle_at_on kind line column s (Err refusal) = one_on refusal line column
 
@@ -70,7 +70,7 @@ settle_fault_on :
     FaultsOn line (settle_each kinds read)
 settle_fault_on [] line read on = none_on line tt
 settle_fault_on (kind ∷ kinds) line read on =
-    then_on line (settle_at kind read.0 (settled kind read.0.value))
+    then_on line (settle_at read.0 (settled kind read.0.value))
     (λ first. and_then (settle_each kinds read.1) (λ others. Ok (first, others)))
     (λ found e.
     settle_at_on kind read.0.line read.0.column read.0.value (settled kind read.0.value) found e ∙ on.0)

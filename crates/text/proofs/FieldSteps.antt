@@ -1,26 +1,24 @@
 -- What an answer says of the steps that it came through: of `and_then`, and of the first field of several.
 -- Assumes nothing.
-use Rattle.std.proofs.Common.{◌≡◌, ℕ, List, ◌∷◌, Some, None, Ok, Err, Option, Result, sym, refl, ap, ◌∙◌, arith}
+use Rattle.std.proofs.Common.{◌≡◌, List, ◌∷◌, Some, None, Ok, Err, Option, Result, sym, refl, ap, ◌∙◌}
 use Rattle.days.specs.declared.refusal.Refusal.{Refusal}
 use Rattle.text.specs.declared.fault.Fault.{Fault}
 use Rattle.text.specs.Cuts.{Word}
 use Rattle.text.specs.Fields.{placed, Each, Ending, read_word, and_then, fields, settle_at, settle_each}
 use Rattle.text.specs.Kinds.{Kind, Said, Value, said, settled}
-
-pub ok_same : {A E : Type 0} (x y : A) → ◌≡◌ {A = Result A E} (Ok x) (Ok y) → x ≡ y
-ok_same x y e = cc
+use Rattle.text.proofs.Chosen.{same_from_ok}
 
 pub err_same : {A E : Type 0} (x y : E) → ◌≡◌ {A = Result A E} (Err x) (Err y) → x ≡ y
 err_same x y e = cc
 
 pub never_both : {A E : Type 0} (x : A) (y : E) → ◌≡◌ {A = Result A E} (Ok x) (Err y) → ⊥
-never_both x y e = let z : ◌≡◌ {A = ℕ} 0 1 = cc in omega arith
+never_both x y e = cc
 
 pub then_ok :
     {A B : Type 0} (r : Result A Fault) (f : A → Result B Fault) (b : B) → and_then r f ≡ Ok b →
     (a : A) × (r ≡ Ok a) × (f a ≡ Ok b)
 then_ok (Ok a) f b e = (a, refl, e)
-then_ok (Err fault) f b e = absurd (never_both b fault (sym e))
+then_ok (Err fault) f b e = cc
 
 module _ (kind : Kind) (kinds : List Kind) where
   -- the first word says something, and the others are read behind it
@@ -33,13 +31,13 @@ module _ (kind : Kind) (kinds : List Kind) where
   first_said :
       (end : Ending) (word : Word) (later : List Word) (read : Each Said (kind ∷ kinds)) (o : Option (Said kind)) →
       said kind word.bytes ≡ o →
-      and_then (read_word kind end.line word later o)
+      and_then (read_word end.line word later o)
       (λ one. and_then (fields kinds end one.1) (λ others. Ok (one.0, others)))
       ≡ Ok read → FirstRead end word later read
-  first_said end word later read None e read_is = absurd (never_both _ _ (sym read_is))
+  first_said end word later read None e read_is = cc
   first_said end word later read (Some s) e read_is =
       let rest = then_ok (fields kinds end later) (λ others. Ok (placed s end.line word.column, others)) read read_is in
-      let same = ok_same _ _ rest.2 in
+      let same = same_from_ok rest.2 in
       record {
         says = s;
         said_is = e;
@@ -62,15 +60,15 @@ module _ (kind : Kind) (kinds : List Kind) where
   first_judged :
       (read : Each Said (kind ∷ kinds)) (each : Each Value (kind ∷ kinds)) (r : Result (Value kind) Refusal) →
       settled kind read.0.value ≡ r →
-      and_then (settle_at kind read.0 r)
+      and_then (settle_at read.0 r)
       (λ first. and_then (settle_each kinds read.1) (λ others. Ok (first, others)))
       ≡ Ok each → FirstSettled read each
-  first_judged read each (Err refusal) e each_is = absurd (never_both _ _ (sym each_is))
+  first_judged read each (Err refusal) e each_is = cc
   first_judged read each (Ok v) e each_is =
       let rest =
       then_ok (settle_each kinds read.1) (λ others. Ok (placed v read.0.line read.0.column, others)) each each_is
       in
-      let same = ok_same _ _ rest.2 in
+      let same = same_from_ok rest.2 in
       record {
         value = v;
         settled_is = e;

@@ -1,15 +1,16 @@
 -- The words that are read as values are the spellings of these values, and these spellings are read as them.
 -- Assumes nothing: the laws of the kinds of fields are an argument.
 use Rattle.std.proofs.Common.{◌≡◌, ℕ, ◌+◌, List, [], ◌∷◌, ◌++◌, length, Ok, sym, refl, ap, ◌∙◌, subst, ap₂, append-nil, arith}
-use Rattle.text.specs.Cuts.{space, line_end, Word, words}
+use Rattle.text.specs.Cuts.{space, line_end, Word, words, Without}
 use Rattle.text.specs.Fields.{placed, Each, Ending, fields, settle_each}
 use Rattle.text.specs.KindLaws.{Unbroken, KindLaw}
 use Rattle.text.specs.Kinds.{Kind, Said, Value, settled}
 use Rattle.text.specs.Laws.{InRange, InPlace}
+use Rattle.text.specs.Left.{word_at}
 use Rattle.text.specs.Spelled.{spelled, spelled_each}
-use Rattle.text.proofs.FieldSteps.{never_both, first_read, first_settled}
-use Rattle.text.proofs.LineCuts.{Without, without_from, without_append}
-use Rattle.text.proofs.WordCuts.{word_at, joined_words, Placed, words_last, words_first}
+use Rattle.text.proofs.FieldSteps.{first_read, first_settled}
+use Rattle.text.proofs.LineCuts.{without_from, without_append}
+use Rattle.text.proofs.WordCuts.{joined_words, Placed, words_last, words_first}
 
 -- the words of the values from a column on
 abbrev pub words_each : ℕ → (kinds : List Kind) → Each Value kinds → List Word
@@ -30,8 +31,8 @@ module _ (laws : (kind : Kind) → KindLaw kind) where
       fields kinds end later ≡ Ok read → settle_each kinds read ≡ Ok each → Placed column later →
       (spelled_each kinds each ≡ joined_words later) × InPlace end.line column kinds each
   read_are_spelled [] end [] column read each read_is each_is at = (refl, tt)
-  read_are_spelled [] end (word ∷ later) column read each read_is each_is at = absurd (never_both _ _ (sym read_is))
-  read_are_spelled (kind ∷ kinds) end [] column read each read_is each_is at = absurd (never_both _ _ (sym read_is))
+  read_are_spelled [] end (word ∷ later) column read each read_is each_is at = cc
+  read_are_spelled (kind ∷ kinds) end [] column read each read_is each_is at = cc
   read_are_spelled (kind ∷ kinds) end (word ∷ later) column read each read_is each_is at =
       let r = first_read kind kinds end word later read read_is in
       let s = first_settled kind kinds read each each_is in

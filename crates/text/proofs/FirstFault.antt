@@ -4,7 +4,7 @@ use Rattle.std.proofs.Common.{◌≡◌, ℕ, ◌+◌, ◌<◌, List, [], ◌∷
 use Rattle.text.specs.declared.fault.Fault.{Fault}
 use Rattle.text.specs.declared.line.Line.{Line}
 use Rattle.text.specs.declared.standing.Standing.{Standing}
-use Rattle.text.specs.Cuts.{line_end}
+use Rattle.text.specs.Cuts.{line_end, Without}
 use Rattle.text.specs.Fields.{and_then}
 use Rattle.text.specs.KindLaws.{KindLaw}
 use Rattle.text.specs.Kinds.{Kind}
@@ -15,7 +15,7 @@ use Rattle.text.specs.Meaning.{read_lines}
 use Rattle.text.specs.Spelled.{spelled_line, written}
 use Rattle.text.proofs.FaultPlaces.{line_fault_on}
 use Rattle.text.proofs.FieldSteps.{err_same, never_both}
-use Rattle.text.proofs.LineCuts.{Without, cut_once, never_holds, joined_lines, AllWithout}
+use Rattle.text.proofs.LineCuts.{cut_once, never_holds, joined_lines, AllWithout}
 use Rattle.text.proofs.LineLaws.{ReadAs, line_bytes, spelled_then, line_read, line_stands, line_without_line_end}
 
 -- no line that is good there begins what is left
@@ -99,7 +99,7 @@ module _ (laws : (kind : Kind) → KindLaw kind) where
     where
       still_refused :
           (r : Result (List Line) Fault) → and_then r (λ ls. Ok (l ∷ ls)) ≡ Err found → r ≡ Err found
-      still_refused (Ok ls) e₂ = absurd (never_both _ _ e₂)
+      still_refused (Ok ls) e₂ = cc
       still_refused (Err other) e₂ = ap Err (err_same other found e₂)
 
   pub lines_fault :
@@ -107,7 +107,7 @@ module _ (laws : (kind : Kind) → KindLaw kind) where
       Without line_end left → read_lines standing n lines left ≡ Err found →
       FaultyFrom standing n (joined_lines lines left) found.line
   unfolding read_lines
-  lines_fault [] standing n [] found clean left_clean e = absurd (never_both _ _ e)
+  lines_fault [] standing n [] found clean left_clean e = cc
   lines_fault [] standing n (b ∷ bs) found clean left_clean e =
       faulty_here standing n (b ∷ bs) found.line (sym (ap (λ (x : Fault). x.line) (err_same _ found e))) (omega arith)
       (none_begins_unended standing n (b ∷ bs) left_clean)

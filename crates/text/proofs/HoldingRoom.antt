@@ -35,7 +35,7 @@ holdings_few (l ∷ ls) count n (formed, stands, later) few =
     (subst (λ r. GoodLines (after_deal (InHoldings (count + 1)) r) (n + 1) ls) is later) more)
 
 after_a_deal : (standing : Standing) (mark : Mark) → role mark ≡ a_deal → next standing mark ≡ InHoldings 0
-after_a_deal (InCalendar has_pattern days offsets) mark is = ap (after_calendar has_pattern days offsets) is
+after_a_deal (InCalendar seen) mark is = ap (after_calendar seen) is
 after_a_deal (InHoldings count) mark is = ap (after_deal (InHoldings (count + 1))) is
 after_a_deal InCalls mark is = ap (after_deal InCalls) is
 

@@ -1,6 +1,6 @@
 -- The fields that are spelled by letters: stubs, conventions and day counts.
 -- Assumes nothing.
-use Rattle.std.proofs.Common.{◌≡◌, ℕ, true, ◌&&◌, eqb, List, [], ◌∷◌, Some, sym, refl, ap, ◌∙◌, inl, inr, arith}
+use Rattle.std.proofs.Common.{◌≡◌, ℕ, true, ◌&&◌, eqb, List, [], ◌∷◌, Some, sym, refl, ap, ◌∙◌, inl, inr}
 use Rattle.std.proofs.lemmas.Bool.{eqb-true, and_parts}
 use Rattle.calendar.specs.Letters.{convention_of}
 use Rattle.calendar.specs.declared.rolling.Convention.{Convention}
@@ -12,7 +12,7 @@ use Rattle.text.specs.declared.basis.Basis.TheVariants.{Actual360, Actual365, Bo
 use Rattle.text.specs.Kinds.{stub, convention, basis, stub_said, convention_said, same_bytes, basis_said}
 use Rattle.text.specs.KindLaws.{KindLaw, Unbroken}
 use Rattle.text.specs.Spelled.{spelled_stub, spelled_convention, spelled_basis}
-use Rattle.text.proofs.Chosen.{none_is_not_some, same_from_ok, some_from_cond, some_from_only}
+use Rattle.text.proofs.Chosen.{same_from_ok, some_from_cond, some_from_only}
 use Rattle.text.proofs.Unbroken.{unbroken_from_test}
 
 -- words that pass a test for a spelling are that spelling
@@ -28,8 +28,8 @@ one_same a x e = let first = eqb-true a x e in cc
 
 bytes_same : (xs ys : List ℕ) → same_bytes xs ys ≡ true → ys ≡ xs
 bytes_same [] [] e = refl
-bytes_same [] (y ∷ ys) e = absurd (let z : ◌≡◌ {A = ℕ} 0 1 = cc in omega arith)
-bytes_same (x ∷ xs) [] e = absurd (let z : ◌≡◌ {A = ℕ} 0 1 = cc in omega arith)
+bytes_same [] (y ∷ ys) e = cc
+bytes_same (x ∷ xs) [] e = cc
 bytes_same (x ∷ xs) (y ∷ ys) e =
     let p = and_parts (eqb x y) (same_bytes xs ys) e in
     let first = eqb-true x y p.0 in
@@ -38,8 +38,8 @@ bytes_same (x ∷ xs) (y ∷ ys) e =
 
 -- stubs
 stub_read : (word : List ℕ) (s : Stub) → stub_said word ≡ Some s → spelled_stub s ≡ word
-stub_read [] s e = absurd (none_is_not_some e)
-stub_read (a ∷ []) s e = absurd (none_is_not_some e)
+stub_read [] s e = cc
+stub_read (a ∷ []) s e = cc
 stub_read (a ∷ b ∷ []) s e =
     elim (some_from_cond (eqb a 83 && eqb b 70) ShortFirst _ e) [
       | inl p ↦ ap spelled_stub (sym p.1) ∙ two_same a b 83 70 p.0
@@ -47,7 +47,7 @@ stub_read (a ∷ b ∷ []) s e =
           let p = some_from_only (eqb a 83 && eqb b 76) ShortLast e' in
           ap spelled_stub (sym p.1) ∙ two_same a b 83 76 p.0
     ]
-stub_read (a ∷ b ∷ c ∷ rest) s e = absurd (none_is_not_some e)
+stub_read (a ∷ b ∷ c ∷ rest) s e = cc
 
 stub_said_again : (s : Stub) → stub_said (spelled_stub s) ≡ Some s
 stub_said_again ShortFirst = refl
@@ -82,9 +82,9 @@ letter_read a c e =
     ]
 
 convention_read : (word : List ℕ) (c : Convention) → convention_said word ≡ Some c → spelled_convention c ≡ word
-convention_read [] c e = absurd (none_is_not_some e)
+convention_read [] c e = cc
 convention_read (a ∷ []) c e = letter_read a c e
-convention_read (a ∷ b ∷ rest) c e = absurd (none_is_not_some e)
+convention_read (a ∷ b ∷ rest) c e = cc
 
 convention_said_again : (c : Convention) → convention_said (spelled_convention c) ≡ Some c
 convention_said_again Following = refl

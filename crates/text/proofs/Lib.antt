@@ -1,9 +1,10 @@
 pub mod Digits
 pub mod Dated
+pub mod BasisNames
 pub mod WordSplits
 pub mod BodySteps
 pub mod LineSteps
-pub mod LineSplits
+pub mod LineCuts
 pub mod CountsUp
 pub mod Progress
 pub mod Chosen
@@ -17,7 +18,6 @@ pub mod PatternField
 pub mod DateWords
 pub mod DateField
 pub mod FieldLaws
-pub mod LineCuts
 pub mod WordCuts
 pub mod MarkWords
 pub mod FieldSteps

@@ -1,13 +1,8 @@
 -- A text is its lines, each with its byte 10, and what is left behind them; no line holds a byte 10.
 -- Assumes nothing.
-use Rattle.std.proofs.Common.{◌≡◌, ℕ, suc, ◌<◌, Bool, true, false, cond, eqb, List, [], ◌∷◌, ◌++◌, length, get_or, sym, refl, ap, ◌∙◌, ap₂, arith}
-use Rattle.std.proofs.lemmas.Bool.{eqb-true, eqb-false, ne_eqb}
-use Rattle.text.specs.Cuts.{line_end, Cut, with_byte, cut_lines}
-
--- no byte of the list is b
-abbrev pub Without : ℕ → List ℕ → Type 0
-Without b [] = Unit {0}
-Without b (c ∷ cs) = (c ≡ b → ⊥) × Without b cs
+use Rattle.std.proofs.Common.{filter, inl, inr, ◌≡◌, ℕ, suc, ◌<◌, Bool, true, false, cond, eqb, List, [], ◌∷◌, ◌++◌, length, get_or, sym, refl, ap, ◌∙◌, ap₂, arith}
+use Rattle.std.proofs.lemmas.Bool.{eqb-true, eqb-false, ne_eqb, cases_Bool}
+use Rattle.text.specs.Cuts.{Without, line_end, Cut, with_byte, cut_lines}
 
 pub without_from : (b : ℕ) (cs : List ℕ) → ((i : ℕ) → i < length cs → get_or cs i 0 ≡ b → ⊥) → Without b cs
 without_from b [] no-b = tt
@@ -32,8 +27,8 @@ cut_once b (x ∷ xs) ys (z ∷ zs) ws no-x no-z e =
 
 -- a list without a byte is none with it
 pub never_holds : (b : ℕ) (xs zs ws : List ℕ) → Without b xs → xs ≡ zs ++ b ∷ ws → ⊥
-never_holds b [] [] ws no-x e = let z : ◌≡◌ {A = ℕ} 0 1 = cc in omega arith
-never_holds b [] (z ∷ zs) ws no-x e = let z : ◌≡◌ {A = ℕ} 0 1 = cc in omega arith
+never_holds b [] [] ws no-x e = cc
+never_holds b [] (z ∷ zs) ws no-x e = cc
 never_holds b (x ∷ xs) [] ws no-x e = no-x.0 (let same : x ≡ b = cc in same)
 never_holds b (x ∷ xs) (z ∷ zs) ws no-x e =
     never_holds b xs zs ws no-x.1 (let same : xs ≡ zs ++ b ∷ ws = cc in same)
@@ -94,6 +89,13 @@ cut_first [] rest clean = refl
 cut_first (b ∷ line) rest clean =
     rw (ne_eqb b line_end clean.0) (ap (λ (cut : Cut). with_byte b cut cut.whole) (cut_first line rest clean.1))
 
+-- what no byte 10 ends is left
+pub cut_none : (text : List ℕ) → Without line_end text → cut_lines text ≡ record { whole = []; left = text }
+unfolding cut_lines
+cut_none [] clean = refl
+cut_none (b ∷ bs) clean =
+    rw (ne_eqb b line_end clean.0) (ap (λ (cut : Cut). with_byte b cut cut.whole) (cut_none bs clean.1))
+
 -- lines that byte 10 ends are the cut of what they join to
 pub cut_joined :
     (lines : List (List ℕ)) → AllWithout lines →
@@ -103,3 +105,17 @@ cut_joined [] clean = refl
 cut_joined (line ∷ lines) clean =
     cut_first line (joined_lines lines []) clean.0
     ∙ ap (λ (cut : Cut). record { whole = line ∷ cut.whole; left = cut.left }) (cut_joined lines clean.1)
+
+longer_same : (b : ℕ) (cut : Cut) (lines : List (List ℕ)) → length (with_byte b cut lines).whole ≡ length lines
+longer_same b cut [] = refl
+longer_same b cut (line ∷ lines) = refl
+
+-- there are as many lines as bytes 10
+pub lines_counted : (text : List ℕ) → length (filter (λ b. eqb b line_end) text) ≡ length (cut_lines text).whole
+unfolding cut_lines
+lines_counted [] = refl
+lines_counted (b ∷ bs) =
+    elim (cases_Bool (eqb b line_end)) [
+      | inl e ↦ rw e (ap suc (lines_counted bs))
+      | inr e ↦ rw e (lines_counted bs ∙ sym (longer_same b (cut_lines bs) (cut_lines bs).whole))
+    ]

@@ -1,12 +1,12 @@
 -- A line is read as what it spells, and a line that may stand there is read from its spelling.
 -- Assumes nothing: the laws of the kinds of fields are an argument.
-use Rattle.std.proofs.Common.{◌≡◌, ℕ, ◌+◌, Bool, true, false, cond, List, [], ◌∷◌, ◌++◌, length, Some, None, Ok, Err, Option, sym, refl, ap, ◌∙◌, subst, ap₂, append_assoc, arith}
+use Rattle.std.proofs.Common.{◌≡◌, ℕ, ◌+◌, Bool, true, false, cond, List, [], ◌∷◌, ◌++◌, length, Some, None, Ok, Err, Option, refl, ap, ◌∙◌, subst, ap₂, append_assoc, arith, lit<}
 use Rattle.std.proofs.lemmas.Bool.{cond-true}
 use Rattle.text.specs.declared.fault.Fault.{Fault}
 use Rattle.text.specs.declared.line.Line.{Line}
 use Rattle.text.specs.declared.mark.Mark.{Mark}
 use Rattle.text.specs.declared.standing.Standing.{Standing}
-use Rattle.text.specs.Cuts.{line_end, Word, words}
+use Rattle.text.specs.Cuts.{space, line_end, Word, words, Without}
 use Rattle.text.specs.Fields.{Each, Ending, fields, settle_each}
 use Rattle.text.specs.KindLaws.{KindLaw}
 use Rattle.text.specs.Kinds.{Kind, Value}
@@ -14,10 +14,11 @@ use Rattle.text.specs.Laws.{InPlace, WellFormed, MayStand}
 use Rattle.text.specs.Lines.{format, mark_from, line_from, unless_full, body_of, known, marked, line_of}
 use Rattle.text.specs.Marks.{spelled_mark, mark_of, allowed, full}
 use Rattle.text.specs.Spelled.{spelled_each, values, spelled_line}
-use Rattle.text.proofs.FieldSteps.{ok_same, never_both, then_ok}
+use Rattle.text.proofs.Chosen.{same_from_ok}
+use Rattle.text.proofs.FieldSteps.{then_ok}
 use Rattle.text.proofs.FieldWords.{words_each, read_are_spelled, words_of_each, spelled_are_read, each_without_line_end}
-use Rattle.text.proofs.LineCuts.{Without, without_append}
-use Rattle.text.proofs.MarkWords.{mark_of_spelled, mark_without_space, mark_without_line_end, spelled_from_mark_of, line_from_values, of_line_from}
+use Rattle.text.proofs.LineCuts.{without_append}
+use Rattle.text.proofs.MarkWords.{mark_of_spelled, mark_without, spelled_from_mark_of, line_from_values, of_line_from}
 use Rattle.text.proofs.WordCuts.{Placed, WordsOf, words_of}
 
 -- a line as it is spelled, without the byte 10 that ends it
@@ -57,8 +58,8 @@ read_as standing n bytes l fits =
 with_room :
     (t : Bool) (mark : Mark) (n : ℕ) (each : Each Value (format mark)) (l : Line) → unless_full t mark n each ≡ Ok l →
     (t ≡ false) × (line_from mark each ≡ l)
-with_room true mark n each l e = absurd (never_both _ _ (sym e))
-with_room false mark n each l e = (refl, ok_same _ _ e)
+with_room true mark n each l e = cc
+with_room false mark n each l e = (refl, same_from_ok e)
 
 module _ (laws : (kind : Kind) → KindLaw kind) where
   body_read :
@@ -89,13 +90,13 @@ module _ (laws : (kind : Kind) → KindLaw kind) where
       ReadAs standing end.line bytes l
   allowed_read standing mark end word later bytes l why true of found allow e =
       body_read standing mark end word later bytes l of found allow e
-  allowed_read standing mark end word later bytes l why false of found allow e = absurd (never_both _ _ (sym e))
+  allowed_read standing mark end word later bytes l why false of found allow e = cc
 
   known_read :
       (standing : Standing) (end : Ending) (word : Word) (later : List Word) (bytes : List ℕ) (l : Line) (o : Option Mark) →
       WordsOf 1 bytes (word ∷ later) → mark_of word.bytes ≡ o → known standing end later o ≡ Ok l →
       ReadAs standing end.line bytes l
-  known_read standing end word later bytes l None of found e = absurd (never_both _ _ (sym e))
+  known_read standing end word later bytes l None of found e = cc
   known_read standing end word later bytes l (Some mark) of found e =
       allowed_read standing mark end word later bytes l _ (allowed standing mark) of found refl e
 
@@ -131,7 +132,7 @@ module _ (laws : (kind : Kind) → KindLaw kind) where
       let later = words_each (1 + length word + 1) (format mark) (values l) in
       let column_is : length word + 2 ≡ 1 + length word + 1 = omega arith in
       ap (marked standing end)
-      (words_of_each laws (format mark) (values l) n (length word + 2) 1 word (mark_without_space mark) well)
+      (words_of_each laws (format mark) (values l) n (length word + 2) 1 word (mark_without space (lit< tt) mark) well)
       ∙ ap (known standing end later) (mark_of_spelled mark)
       ∙ cond-true (allowed standing mark) (body_of standing mark end later) _ may.is_allowed
       ∙ body_stands standing mark end (1 + length word + 1) (values l)
@@ -141,5 +142,5 @@ module _ (laws : (kind : Kind) → KindLaw kind) where
   pub line_without_line_end : (n : ℕ) (l : Line) → WellFormed n l → Without line_end (line_bytes l)
   line_without_line_end n l well =
       let mark = mark_from l in
-      without_append line_end (spelled_mark mark) (spelled_each (format mark) (values l)) (mark_without_line_end mark)
+      without_append line_end (spelled_mark mark) (spelled_each (format mark) (values l)) (mark_without line_end (lit< tt) mark)
       (each_without_line_end laws (format mark) (values l) n (length (spelled_mark mark) + 2) well)

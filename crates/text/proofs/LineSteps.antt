@@ -35,10 +35,10 @@ values_first mark is-full n (Err why) = refl
 
 pub body_with_room :
     (standing : Standing) (mark : Mark) (line : Fields) →
-    body_of standing mark (ending line) (left line) ≡ and_then (body mark line) (with_room (full standing mark) line.number)
+    body_of standing mark (ending line) (left line) ≡ and_then (body mark line) (with_room (full standing mark) line.place.line)
 unfolding fields_then
 body_with_room standing mark line =
-    values_first mark (full standing mark) line.number (fields (format mark) (ending line) (left line))
+    values_first mark (full standing mark) line.place.line (fields (format mark) (ending line) (left line))
 
 -- the first word is taken for the mark
 module _

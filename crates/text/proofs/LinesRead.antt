@@ -1,6 +1,6 @@
 -- Lines are read as good lines that spell them, and good lines are read from what they spell.
 -- Assumes nothing: the laws of the kinds of fields are an argument.
-use Rattle.std.proofs.Common.{◌≡◌, ℕ, ◌+◌, List, [], ◌∷◌, ◌++◌, Ok, sym, refl, ap, ◌∙◌, subst, ap₂}
+use Rattle.std.proofs.Common.{◌≡◌, ℕ, ◌+◌, List, [], ◌∷◌, ◌++◌, Ok, refl, ap, ◌∙◌, subst, ap₂}
 use Rattle.text.specs.declared.line.Line.{Line}
 use Rattle.text.specs.declared.standing.Standing.{Standing}
 use Rattle.text.specs.Cuts.{line_end, cut_lines}
@@ -11,7 +11,8 @@ use Rattle.text.specs.Lines.{mark_from, line_of}
 use Rattle.text.specs.Marks.{next}
 use Rattle.text.specs.Meaning.{read_lines}
 use Rattle.text.specs.Spelled.{written}
-use Rattle.text.proofs.FieldSteps.{ok_same, never_both, then_ok}
+use Rattle.text.proofs.Chosen.{same_from_ok}
+use Rattle.text.proofs.FieldSteps.{then_ok}
 use Rattle.text.proofs.LineCuts.{joined_lines, AllWithout, cut_joined}
 use Rattle.text.proofs.LineLaws.{line_bytes, spelled_then, line_read, line_stands, line_without_line_end}
 
@@ -31,8 +32,8 @@ module _ (laws : (kind : Kind) → KindLaw kind) where
       read_lines standing n lines left ≡ Ok ls → GoodLines standing n ls × (written ls ≡ joined_lines lines left)
   unfolding read_lines
   lines_read [] standing n [] ls e =
-      subst (λ all. GoodLines standing n all × (written all ≡ [])) (ok_same _ _ e) (tt, refl)
-  lines_read [] standing n (b ∷ bs) ls e = absurd (never_both _ _ (sym e))
+      subst (λ all. GoodLines standing n all × (written all ≡ [])) (same_from_ok e) (tt, refl)
+  lines_read [] standing n (b ∷ bs) ls e = cc
   lines_read (bytes ∷ later) standing n left ls e =
       let first = then_ok (line_of standing n bytes) _ ls e in
       let l = first.0 in
@@ -40,7 +41,7 @@ module _ (laws : (kind : Kind) → KindLaw kind) where
       let is = line_read laws standing n bytes l first.1 in
       let are = lines_read later (next standing (mark_from l)) (n + 1) left others.0 others.1 in
       subst (λ all. GoodLines standing n all × (written all ≡ bytes ++ line_end ∷ joined_lines later left))
-      (ok_same _ _ others.2) (
+      (same_from_ok others.2) (
         (is.well_formed, is.may_stand, are.0),
         spelled_then l (written others.0)
             ∙ ap₂ (λ (line rest : List ℕ). line ++ line_end ∷ rest) is.spells are.1,

@@ -1,18 +1,17 @@
 -- A mark and the word that it is lead to each other, and so do a line and its mark with its values.
 -- Assumes nothing.
-use Rattle.std.proofs.Common.{◌≡◌, ℕ, Bool, true, false, cond, List, [], ◌∷◌, Some, Option, refl, arith}
+use Rattle.std.proofs.Common.{◌≡◌, ℕ, ◌<◌, Bool, true, false, cond, List, [], ◌∷◌, Some, Option, refl, arith}
 use Rattle.std.proofs.lemmas.Bool.{eqb-true, and_parts}
 use Rattle.text.specs.declared.line.Line.{Line}
 use Rattle.text.specs.declared.line.Line.TheVariants as line
 use Rattle.text.specs.declared.mark.Mark.{Mark}
 use Rattle.text.specs.declared.mark.Mark.TheVariants.{Pattern, ClosedDay, Offset, Deal, Holding, Advance, Transfer, Redemption, Posting, Payment}
-use Rattle.text.specs.Cuts.{space, line_end}
+use Rattle.text.specs.Cuts.{Without}
 use Rattle.text.specs.Fields.{Each}
 use Rattle.text.specs.Kinds.{Value}
 use Rattle.text.specs.Lines.{format, line_from, mark_from}
 use Rattle.text.specs.Marks.{spelled_mark, are, mark_of, mark_of_two}
 use Rattle.text.specs.Spelled.{values}
-use Rattle.text.proofs.LineCuts.{Without}
 
 pub mark_of_spelled : (mark : Mark) → mark_of (spelled_mark mark) ≡ Some mark
 mark_of_spelled Pattern = refl
@@ -26,29 +25,18 @@ mark_of_spelled Redemption = refl
 mark_of_spelled Posting = refl
 mark_of_spelled Payment = refl
 
-pub mark_without_space : (mark : Mark) → Without space (spelled_mark mark)
-mark_without_space Pattern = omega arith
-mark_without_space ClosedDay = omega arith
-mark_without_space Offset = omega arith
-mark_without_space Deal = omega arith
-mark_without_space Holding = omega arith
-mark_without_space Advance = omega arith
-mark_without_space Transfer = omega arith
-mark_without_space Redemption = omega arith
-mark_without_space Posting = omega arith
-mark_without_space Payment = omega arith
-
-pub mark_without_line_end : (mark : Mark) → Without line_end (spelled_mark mark)
-mark_without_line_end Pattern = omega arith
-mark_without_line_end ClosedDay = omega arith
-mark_without_line_end Offset = omega arith
-mark_without_line_end Deal = omega arith
-mark_without_line_end Holding = omega arith
-mark_without_line_end Advance = omega arith
-mark_without_line_end Transfer = omega arith
-mark_without_line_end Redemption = omega arith
-mark_without_line_end Posting = omega arith
-mark_without_line_end Payment = omega arith
+-- marks are letters
+pub mark_without : (b : ℕ) → b < 65 → (mark : Mark) → Without b (spelled_mark mark)
+mark_without b low Pattern = omega arith
+mark_without b low ClosedDay = omega arith
+mark_without b low Offset = omega arith
+mark_without b low Deal = omega arith
+mark_without b low Holding = omega arith
+mark_without b low Advance = omega arith
+mark_without b low Transfer = omega arith
+mark_without b low Redemption = omega arith
+mark_without b low Posting = omega arith
+mark_without b low Payment = omega arith
 
 -- two bytes that a mark was found for spell it
 abbrev Spells : ℕ → ℕ → Option Mark → Type 0
@@ -79,7 +67,7 @@ found_spells a b =
     (or 84 82 Transfer _ refl
     (or 82 68 Redemption _ refl
     (or 80 79 Posting _ refl
-    (or 80 89 Payment _ refl (λ mark found. absurd (let z : ◌≡◌ {A = ℕ} 0 1 = cc in omega arith)))))))))))
+    (or 80 89 Payment _ refl (λ mark found. cc))))))))))
 
 pub spelled_from_mark_of : (word : List ℕ) (mark : Mark) → mark_of word ≡ Some mark → spelled_mark mark ≡ word
 spelled_from_mark_of [] mark found = cc

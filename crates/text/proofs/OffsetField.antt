@@ -7,7 +7,7 @@ use Rattle.calendar.specs.Kinds.{within_sixty}
 use Rattle.text.specs.Kinds.{offset, number_said, plus_said, minus_said, offset_said}
 use Rattle.text.specs.KindLaws.{KindLaw}
 use Rattle.text.specs.Spelled.{spelled_offset}
-use Rattle.text.proofs.Chosen.{none_is_not_some, same_from_some, ok_from_only}
+use Rattle.text.proofs.Chosen.{same_from_some, ok_from_only}
 use Rattle.text.proofs.NumberField.{number_read, number_said_again, decimal_above}
 use Rattle.text.proofs.Unbroken.{Above, unbroken_from_above}
 
@@ -18,12 +18,12 @@ minus_of_some n =
 
 -- behind each sign the number that it goes with
 plus_from_some : (o : Option ℕ) (z : ℤ) → plus_said o ≡ Some z → (n : ℕ) × (o ≡ Some n) × (z ≡ pos n)
-plus_from_some None z e = absurd (none_is_not_some e)
+plus_from_some None z e = cc
 plus_from_some (Some n) z e = (n, refl, sym (same_from_some e))
 
 minus_from_some : (o : Option ℕ) (z : ℤ) → minus_said o ≡ Some z → (n : ℕ) × (o ≡ Some (suc n)) × (z ≡ negsuc n)
-minus_from_some None z e = absurd (none_is_not_some e)
-minus_from_some (Some zero) z e = absurd (none_is_not_some e)
+minus_from_some None z e = cc
+minus_from_some (Some zero) z e = cc
 minus_from_some (Some (suc n)) z e = (n, refl, sym (same_from_some (sym (minus_of_some n) ∙ e)))
 
 -- which sign stands in front
@@ -32,7 +32,7 @@ sign_from_some :
     ((plus ≡ true) × (a ≡ Some z)) ⊎ ((minus ≡ true) × (b ≡ Some z))
 sign_from_some true minus a b z e = inl (refl, e)
 sign_from_some false true a b z e = inr (refl, e)
-sign_from_some false false a b z e = absurd (none_is_not_some e)
+sign_from_some false false a b z e = cc
 
 plus_read : (c : ℕ) (cs : List ℕ) (z : ℤ) → c ≡ 43 → plus_said (number_said cs) ≡ Some z → spelled_offset z ≡ c ∷ cs
 plus_read c cs z sign e =
@@ -47,7 +47,7 @@ minus_read c cs z sign e =
     ap spelled_offset parts.2 ∙ (cc)
 
 offset_read : (word : List ℕ) (z : ℤ) → offset_said word ≡ Some z → spelled_offset z ≡ word
-offset_read [] z e = absurd (none_is_not_some e)
+offset_read [] z e = cc
 offset_read (c ∷ cs) z e =
     elim (sign_from_some (eqb c 43) (eqb c 45) (plus_said (number_said cs)) (minus_said (number_said cs)) z e) [
       | inl p ↦ plus_read c cs z (eqb-true c 43 p.0) p.1

@@ -1,7 +1,7 @@
 -- The law of texts: a text is accepted exactly when good lines spell it, and else its first faulty line is named.
 -- Assumes nothing: the laws of the kinds of fields are an argument.
-use Rattle.std.proofs.Common.{◌≡◌, ℕ, ◌<◌, ◌≤◌, ◌⊎◌, List, [], length, Ok, Err, Result, sym, refl, ap, ◌∙◌, inl, inr, arith}
-use Rattle.std.proofs.lemmas.Bool.{lt-ltb, le-ltb, cases_lt, cond-true, cond-false}
+use Rattle.std.proofs.Common.{◌≡◌, ℕ, ◌<◌, ◌≤◌, ◌⊎◌, List, [], length, Ok, Err, Result, sym, refl, ap, ◌∙◌, inl, inr}
+use Rattle.std.proofs.lemmas.Bool.{lt-ltb, cases_lt, cond-true}
 use Rattle.days.specs.declared.refusal.Refusal.TheVariants.{TextTooLong}
 use Rattle.text.specs.declared.fault.Fault.{Fault}
 use Rattle.text.specs.declared.line.Line.{Line}
@@ -16,17 +16,12 @@ use Rattle.text.specs.Spelled.{written}
 use Rattle.text.proofs.FieldSteps.{err_same, never_both}
 use Rattle.text.proofs.FirstFault.{lines_fault}
 use Rattle.text.proofs.LineCuts.{cut_of}
+use Rattle.text.proofs.Progress.{short_meaning}
 use Rattle.text.proofs.LinesRead.{bytes_each, lines_read, lines_stand, cut_written}
 
 meaning_too_long : (text : List ℕ) → longest_text < length text → meaning text ≡ Err (fault TextTooLong 0 0)
 unfolding meaning
 meaning_too_long text long = cond-true _ _ _ (lt-ltb longest_text (length text) long)
-
-meaning_short :
-    (text : List ℕ) → length text ≤ longest_text →
-    meaning text ≡ read_lines start 1 (cut_lines text).whole (cut_lines text).left
-unfolding meaning
-meaning_short text short = cond-false _ _ _ (le-ltb longest_text (length text) short)
 
 module _ (laws : (kind : Kind) → KindLaw kind) where
   accepted_short :
@@ -34,7 +29,7 @@ module _ (laws : (kind : Kind) → KindLaw kind) where
       GoodLines start 1 lines × (written lines ≡ text)
   accepted_short text lines e short =
       let cut = cut_lines text in
-      let are = lines_read laws cut.whole start 1 cut.left lines (sym (meaning_short text short) ∙ e) in
+      let are = lines_read laws cut.whole start 1 cut.left lines (sym (short_meaning text short) ∙ e) in
       (are.0, are.1 ∙ (cut_of text).joins)
 
   accepted_is_written : (text : List ℕ) (lines : List Line) → meaning text ≡ Ok lines → IsWritten text
@@ -51,7 +46,7 @@ module _ (laws : (kind : Kind) → KindLaw kind) where
       let cut_is : cut_lines text ≡ record { whole = bytes_each of.lines; left = [] } =
       ap cut_lines (sym of.spells) ∙ cut_written laws of.lines start 1 of.good
       in
-      meaning_short text of.short ∙ ap (λ (cut : Cut). read_lines start 1 cut.whole cut.left) cut_is
+      short_meaning text of.short ∙ ap (λ (cut : Cut). read_lines start 1 cut.whole cut.left) cut_is
       ∙ lines_stand laws of.lines start 1 of.good
 
   refused_is : (text : List ℕ) (found : Fault) → meaning text ≡ Err found → Refused text found
@@ -61,7 +56,7 @@ module _ (laws : (kind : Kind) → KindLaw kind) where
         let of = cut_of text in
         let from =
         lines_fault laws cut.whole start 1 cut.left found of.lines_clean of.left_clean
-        (sym (meaning_short text short) ∙ e)
+        (sym (short_meaning text short) ∙ e)
         in
         record {
           before = from.before;
@@ -85,7 +80,7 @@ module _ (laws : (kind : Kind) → KindLaw kind) where
   law_of_outcome text (Err found) e =
       record {
         accepted_exactly_when_good_lines_spell_it = (
-          λ yes'. absurd (let z : ◌≡◌ {A = ℕ} 0 1 = cc in omega arith),
+          λ yes'. cc,
           λ of. absurd (never_both _ _ (sym (written_is_accepted text of) ∙ e)),
         );
         read_and_written_again = refused_is text found e;

@@ -2,11 +2,8 @@
 -- Assumes nothing.
 use Rattle.std.proofs.Common.{◌≡◌, ℕ, ◌+◌, Bool, true, false, cond, eqb, List, [], ◌∷◌, ◌++◌, length, sym, refl, ap, ◌∙◌, subst, ap₂, arith}
 use Rattle.std.proofs.lemmas.Bool.{eqb-true, ne_eqb}
-use Rattle.text.specs.Cuts.{space, Word, longer, words}
-use Rattle.text.proofs.LineCuts.{Without}
-
-abbrev pub word_at : ℕ → List ℕ → Word
-word_at column bytes = record { column = column; bytes = bytes }
+use Rattle.text.specs.Cuts.{space, Word, longer, words, Without, Splits}
+use Rattle.text.specs.Left.{word_at}
 
 -- words, each behind a space
 abbrev pub joined_words : List Word → List ℕ
@@ -62,3 +59,12 @@ words_first column (b ∷ bs) rest clean =
     rw (ne_eqb b space clean.0)
     (ap (longer column b) (words_first (column + 1) bs rest clean.1)
     ∙ ap (λ n. word_at column (b ∷ bs) ∷ words n rest) further)
+
+-- the words of what is cut at its first space
+pub words_cut :
+    (column : ℕ) (rest word later : List ℕ) → Splits space rest word later →
+    words column rest ≡ word_at column word ∷ words (column + (length word + 1)) later
+words_cut column rest word later split =
+    let behind : column + length word + 1 ≡ column + (length word + 1) = omega arith in
+    ap (words column) split.joins ∙ words_first column word later split.clean
+    ∙ ap (λ n. word_at column word ∷ words n later) behind

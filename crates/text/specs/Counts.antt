@@ -6,6 +6,6 @@ use Rattle.text.specs.declared.standing.Standing.TheVariants.{InCalendar, InHold
 
 -- at most so many lines of a sort stand before
 abbrev pub Upto : ℕ → Standing → Type 0
-Upto n (InCalendar has_pattern days offsets) = (days ≤ n) × (offsets ≤ n)
+Upto n (InCalendar seen) = (seen.dates ≤ n) × (seen.offsets ≤ n)
 Upto n (InHoldings count) = count ≤ n
 Upto n InCalls = Unit {0}

@@ -1,12 +1,23 @@
 -- A text cut into lines at byte 10, and a line into words at single spaces.
 -- Assumes nothing.
-use Rattle.std.specs.Prelude.{ℕ, ◌+◌, cond, List, [], ◌∷◌, ◌==◌}
+use Rattle.std.specs.Prelude.{◌≡◌, ℕ, ◌+◌, cond, List, [], ◌∷◌, ◌++◌, length, Some, None, Option, ◌==◌}
+use Rattle.std.specs.Borrow.{Bor}
 
 abbrev pub line_end : ℕ
 line_end = 10
 
 abbrev pub space : ℕ
 space = 32
+
+-- no byte of the list is b
+abbrev pub Without : ℕ → List ℕ → Type 0
+Without b [] = Unit {0}
+Without b (c ∷ cs) = (c ≡ b → ⊥) × Without b cs
+
+-- a list, and what stands in it before the first b and behind it
+pub record Splits (b : ℕ) (whole front back : List ℕ) : Type 0 where
+  pub joins : whole ≡ front ++ b ∷ back
+  pub clean : Without b front
 
 -- the lines that byte 10 ends, without it, and what is left behind the last of them
 pub record Cut : Type 0 where
@@ -39,3 +50,8 @@ words column [] = record { column = column; bytes = [] } ∷ []
 words column (b ∷ bs) =
     let later = words (column + 1) bs in
     cond (b == space) (record { column = column; bytes = [] } ∷ later) (longer column b later)
+
+-- where a line ends whose rest begins at a column; where nothing is left it has ended
+abbrev pub end_from : ℕ → Option (Bor (List ℕ)) → ℕ
+end_from column None = column
+end_from column (Some rest) = column + length rest.now

@@ -24,15 +24,17 @@ pub record Ending : Type 0 where
   pub line : ℕ
   pub column : ℕ
 
-abbrev pub read_word :
-    (kind : Kind) → ℕ → Word → List Word → Option (Said kind) → Result (At (Said kind) × List Word) Fault
-read_word kind line word later None = Err (fault BadField line word.column)
-read_word kind line word later (Some value) = Ok (placed value line word.column, later)
+abbrev pub read_word : {T : Type 0} → ℕ → Word → List Word → Option T → Result (At T × List Word) Fault
+read_word line word later None = Err (fault BadField line word.column)
+read_word line word later (Some value) = Ok (placed value line word.column, later)
 
--- one field: the next word, and the words behind it
+-- one field: what the next word says, and the words behind it
+abbrev pub field_by : {T : Type 0} → (List ℕ → Option T) → Ending → List Word → Result (At T × List Word) Fault
+field_by says end [] = Err (fault BadField end.line end.column)
+field_by says end (word ∷ later) = read_word end.line word later (says word.bytes)
+
 abbrev pub field : (kind : Kind) → Ending → List Word → Result (At (Said kind) × List Word) Fault
-field kind end [] = Err (fault BadField end.line end.column)
-field kind end (word ∷ later) = read_word kind end.line word later (said kind word.bytes)
+field kind end words = field_by (said kind) end words
 
 -- no word is left over
 abbrev pub none_left : Ending → List Word → Result (Unit {0}) Fault
@@ -43,6 +45,11 @@ abbrev pub and_then : {A B : Type 0} → Result A Fault → (A → Result B Faul
 and_then (Ok a) f = f a
 and_then (Err e) f = Err e
 
+-- the only field, and no word more
+abbrev pub alone : {T : Type 0} → (List ℕ → Option T) → Ending → List Word → Result (At T) Fault
+alone says end words =
+    and_then (field_by says end words) (λ read. and_then (none_left end read.1) (λ none. Ok read.0))
+
 -- the words of a line behind its mark
 abbrev pub fields : (kinds : List Kind) → Ending → List Word → Result (Each Said kinds) Fault
 fields [] end words = none_left end words
@@ -50,12 +57,15 @@ fields (kind ∷ kinds) end words =
     and_then (field kind end words) (λ read.
     and_then (fields kinds end read.1) (λ others. Ok (read.0, others)))
 
-abbrev pub settle_at : (kind : Kind) → At (Said kind) → Result (Value kind) Refusal → Result (At (Value kind)) Fault
-settle_at kind it (Ok value) = Ok (placed value it.line it.column)
-settle_at kind it (Err refusal) = Err (fault refusal it.line it.column)
+abbrev pub settle_at : {S V : Type 0} → At S → Result V Refusal → Result (At V) Fault
+settle_at it (Ok value) = Ok (placed value it.line it.column)
+settle_at it (Err refusal) = Err (fault refusal it.line it.column)
+
+abbrev pub settle_by : {S V : Type 0} → (S → Result V Refusal) → At S → Result (At V) Fault
+settle_by settles it = settle_at it (settles it.value)
 
 abbrev pub settle : (kind : Kind) → At (Said kind) → Result (At (Value kind)) Fault
-settle kind it = settle_at kind it (settled kind it.value)
+settle kind it = settle_by (settled kind) it
 
 -- the values of a line
 abbrev pub settle_each : (kinds : List Kind) → Each Said kinds → Result (Each Value kinds) Fault

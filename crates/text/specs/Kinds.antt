@@ -43,10 +43,13 @@ Value stub = Stub
 Value convention = Convention
 Value basis = Basis
 
--- digits from the left
+-- digits of a radix from the left, behind those that write n
+abbrev pub value_on : ℕ → ℕ → List ℕ → ℕ
+value_on radix n [] = n
+value_on radix n (c ∷ cs) = value_on radix (radix * n + (c - 48)) cs
+
 abbrev pub read_on : ℕ → List ℕ → ℕ
-read_on n [] = n
-read_on n (c ∷ cs) = read_on (10 * n + (c - 48)) cs
+read_on n word = value_on 10 n word
 
 -- digits alone
 abbrev pub digits_of : ℕ → List ℕ → Bool
@@ -96,8 +99,7 @@ all_bits [] = true
 all_bits (c ∷ cs) = (c == 48 || c == 49) && all_bits cs
 
 abbrev pub bits_on : ℕ → List ℕ → ℕ
-bits_on n [] = n
-bits_on n (c ∷ cs) = bits_on (2 * n + (c - 48)) cs
+bits_on n word = value_on 2 n word
 
 abbrev pub pattern_said : List ℕ → Option ℕ
 pattern_said word = cond (length word == 7 && all_bits word) (Some (bits_on 0 word)) None

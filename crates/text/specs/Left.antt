@@ -1,26 +1,26 @@
 -- What is left of a line's words where its reading has come to.
 -- Assumes nothing.
-use Rattle.std.specs.Prelude.{◌≡◌, ℕ, ◌+◌, cond, List, [], ◌∷◌, length, drop, Some, None, Ok, Err, Option, Result, nat_le}
+use Rattle.std.specs.Prelude.{◌≡◌, ℕ, ◌+◌, List, [], ◌∷◌, length, Some, None, Ok, Err, Option, Result}
 use Rattle.std.specs.Borrow.{Bor}
 use Rattle.days.specs.declared.refusal.Refusal.TheVariants.{BadField}
 use Rattle.text.specs.declared.at.At.{At}
 use Rattle.text.specs.declared.fault.Fault.{Fault}
 use Rattle.text.specs.declared.fields.Fields.{Fields}
-use Rattle.text.specs.Cuts.{Word, words}
-use Rattle.text.specs.Fields.{Ending, fault, placed, field}
-use Rattle.text.specs.Kinds.{Kind, Said}
+use Rattle.text.specs.Cuts.{Word, words, end_from}
+use Rattle.text.specs.Fields.{Ending, fault, field_by}
 
-abbrev pub left_from : List ℕ → ℕ → List Word
-left_from line from = cond (nat_le from (length line)) (words (from + 1) (drop from line)) []
+abbrev pub left_from : ℕ → Option (Bor (List ℕ)) → List Word
+left_from column None = []
+left_from column (Some rest) = words column rest.now
 
 abbrev pub left : Fields → List Word
-left fields = left_from fields.line.now fields.from
+left fields = left_from fields.place.column fields.rest
+
+abbrev pub ending : Fields → Ending
+ending fields = record { line = fields.place.line; column = end_from fields.place.column fields.rest }
 
 abbrev pub ended_at : ℕ → List ℕ → Ending
 ended_at n bytes = record { line = n; column = length bytes + 1 }
-
-abbrev pub ending : Fields → Ending
-ending fields = ended_at fields.number fields.line.now
 
 abbrev pub word_at : ℕ → List ℕ → Word
 word_at column bytes = record { column = column; bytes = bytes }
@@ -30,12 +30,7 @@ abbrev pub Taken : Ending → List Word → Result (At (Bor (List ℕ))) Fault �
 Taken end words (Ok word) later = (words ≡ word_at word.column word.value.now ∷ later) × (word.line ≡ end.line)
 Taken end words (Err why) later = (words ≡ []) × (why ≡ fault BadField end.line end.column)
 
--- what a word says stands where the word stands
-abbrev pub said_at : {T : Type 0} → ℕ → ℕ → Option T → Result (At T) Fault
-said_at line column None = Err (fault BadField line column)
-said_at line column (Some value) = Ok (placed value line column)
-
--- the next field is read, or why not
-abbrev pub ReadsField : (kind : Kind) → Ending → List Word → Result (At (Said kind)) Fault → List Word → Type 0
-ReadsField kind end words (Ok it) later = field kind end words ≡ Ok (it, later)
-ReadsField kind end words (Err why) later = field kind end words ≡ Err why
+-- the next field is read by what its word says, or why not
+abbrev pub ReadsField : {T : Type 0} → (List ℕ → Option T) → Ending → List Word → Result (At T) Fault → List Word → Type 0
+ReadsField says end words (Ok it) later = field_by says end words ≡ Ok (it, later)
+ReadsField says end words (Err why) later = field_by says end words ≡ Err why

@@ -3,6 +3,7 @@
 use Rattle.std.specs.Prelude.{ℕ, ◌+◌, Bool, true, false, cond, not, ◌&&◌, List, [], ◌∷◌, Some, None, Option, ◌==◌, nat_le}
 use Rattle.text.specs.declared.mark.Mark.{Mark}
 use Rattle.text.specs.declared.mark.Mark.TheVariants.{Pattern, ClosedDay, Offset, Deal, Holding, Advance, Transfer, Redemption, Posting, Payment}
+use Rattle.text.specs.declared.standing.CalendarLines.{CalendarLines}
 use Rattle.text.specs.declared.standing.Standing.{Standing}
 use Rattle.text.specs.declared.standing.Standing.TheVariants.{InCalendar, InHoldings, InCalls}
 
@@ -63,7 +64,7 @@ role Posting = a_call
 role Payment = a_call
 
 abbrev pub start : Standing
-start = InCalendar false 0 0
+start = InCalendar (record { has_pattern = false; dates = 0; offsets = 0 })
 
 abbrev pub most_closed_days : ℕ
 most_closed_days = 512
@@ -93,7 +94,7 @@ allowed_in_deal before_calls a_holding = before_calls
 allowed_in_deal before_calls a_call = true
 
 abbrev pub allowed : Standing → Mark → Bool
-allowed (InCalendar has_pattern days offsets) mark = allowed_in_calendar has_pattern (role mark)
+allowed (InCalendar seen) mark = allowed_in_calendar seen.has_pattern (role mark)
 allowed (InHoldings count) mark = allowed_in_deal true (role mark)
 allowed InCalls mark = allowed_in_deal false (role mark)
 
@@ -107,18 +108,18 @@ full_of days offsets holdings a_holding = nat_le most_holdings holdings
 full_of days offsets holdings a_call = false
 
 abbrev pub full : Standing → Mark → Bool
-full (InCalendar has_pattern days offsets) mark = full_of days offsets 0 (role mark)
+full (InCalendar seen) mark = full_of seen.dates seen.offsets 0 (role mark)
 full (InHoldings count) mark = full_of 0 0 count (role mark)
 full InCalls mark = full_of 0 0 0 (role mark)
 
 -- where the next line stands
-abbrev pub after_calendar : Bool → ℕ → ℕ → Role → Standing
-after_calendar has_pattern days offsets a_pattern = InCalendar true days offsets
-after_calendar has_pattern days offsets a_closed_day = InCalendar has_pattern (days + 1) offsets
-after_calendar has_pattern days offsets an_offset = InCalendar has_pattern days (offsets + 1)
-after_calendar has_pattern days offsets a_deal = InHoldings 0
-after_calendar has_pattern days offsets a_holding = InCalls
-after_calendar has_pattern days offsets a_call = InCalls
+abbrev pub after_calendar : CalendarLines → Role → Standing
+after_calendar seen a_pattern = InCalendar (record seen { has_pattern = true })
+after_calendar seen a_closed_day = InCalendar (record seen { dates = seen.dates + 1 })
+after_calendar seen an_offset = InCalendar (record seen { offsets = seen.offsets + 1 })
+after_calendar seen a_deal = InHoldings 0
+after_calendar seen a_holding = InCalls
+after_calendar seen a_call = InCalls
 
 abbrev pub after_deal : Standing → Role → Standing
 after_deal one_more a_pattern = InCalls
@@ -129,6 +130,6 @@ after_deal one_more a_holding = one_more
 after_deal one_more a_call = InCalls
 
 abbrev pub next : Standing → Mark → Standing
-next (InCalendar has_pattern days offsets) mark = after_calendar has_pattern days offsets (role mark)
+next (InCalendar seen) mark = after_calendar seen (role mark)
 next (InHoldings count) mark = after_deal (InHoldings (count + 1)) (role mark)
 next InCalls mark = after_deal InCalls (role mark)

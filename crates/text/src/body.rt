@@ -1,54 +1,50 @@
 // What stands behind each mark: its fields, and no word more. All fields are read before the first value is judged.
 ghost use Rattle.std.specs.Prelude.{◌≡◌};
 ghost use Rattle.text.specs.Bodies.{body};
-ghost use Rattle.text.specs.declared.mark.Mark.TheVariants.{Pattern, ClosedDay, Offset, Deal, Holding, Advance, Transfer, Redemption, Posting, Payment};
+ghost use Rattle.text.specs.Fields.{and_then, alone, settle_by};
+ghost use Rattle.text.specs.Left.{left, ending};
 
+use crate::at::At;
+use crate::basis::Basis;
 use crate::fault::Fault;
 use crate::fields::Fields;
+use crate::kind::{Date, Judged, Kind, Number, Offset, Pattern};
 use crate::line::{Line, Terms};
 use crate::mark::Mark;
-use crate::settling::{settle_date, settle_offset, settle_pattern};
+use crate::settling::settle;
+use calendar::Convention;
+use schedules::Stub;
 
-fn read_pattern(fields: &mut Fields) -> Result<Line, Fault>
-    ensures { result ≡ body Pattern fields.old }
+// What the only field of a line says.
+fn lone_field<K: Kind>(fields: &mut Fields) -> Result<At<K::Said>, Fault>
+    ensures { result ≡ alone K.says (ending fields.old) (left fields.old) }
 {
-    let mask = fields.pattern()?;
+    let field = fields.next_field::<K>()?;
     fields.end()?;
-    let mask = settle_pattern(mask)?;
-    Ok(Line::Pattern(mask))
+    Ok(field)
 }
 
-fn read_closed_day(fields: &mut Fields) -> Result<Line, Fault>
-    ensures { result ≡ body ClosedDay fields.old }
+// The value of the only field of a line.
+fn lone_value<K: Judged>(fields: &mut Fields) -> Result<At<K::Value>, Fault>
+    ensures { result ≡ and_then (alone K.says (ending fields.old) (left fields.old)) (settle_by K.settles) }
 {
-    let day = fields.date()?;
-    fields.end()?;
-    let day = settle_date(day)?;
-    Ok(Line::ClosedDay(day))
-}
-
-fn read_offset(fields: &mut Fields) -> Result<Line, Fault>
-    ensures { result ≡ body Offset fields.old }
-{
-    let offset = fields.offset()?;
-    fields.end()?;
-    let offset = settle_offset(offset)?;
-    Ok(Line::Offset(offset))
+    let field = lone_field::<K>(fields)?;
+    settle::<K>(field)
 }
 
 fn read_deal(fields: &mut Fields) -> Result<Line, Fault>
-    ensures { result ≡ body Deal fields.old }
+    ensures { result ≡ body Mark.Deal fields.old }
 {
-    let start = fields.date()?;
-    let end = fields.date()?;
-    let months = fields.number()?;
-    let stub = fields.stub()?;
-    let convention = fields.convention()?;
-    let basis = fields.basis()?;
-    let rate = fields.number()?;
+    let start = fields.next_field::<Date>()?;
+    let end = fields.next_field::<Date>()?;
+    let months = fields.next_field::<Number>()?;
+    let stub = fields.next_field::<Stub>()?;
+    let convention = fields.next_field::<Convention>()?;
+    let basis = fields.next_field::<Basis>()?;
+    let rate = fields.next_field::<Number>()?;
     fields.end()?;
-    let start = settle_date(start)?;
-    let end = settle_date(end)?;
+    let start = settle::<Date>(start)?;
+    let end = settle::<Date>(end)?;
     Ok(Line::Deal(Terms {
         start,
         end,
@@ -60,70 +56,46 @@ fn read_deal(fields: &mut Fields) -> Result<Line, Fault>
     }))
 }
 
-fn read_holding(fields: &mut Fields) -> Result<Line, Fault>
-    ensures { result ≡ body Holding fields.old }
-{
-    let holding = fields.number()?;
-    fields.end()?;
-    Ok(Line::Holding(holding))
-}
-
-fn read_advance(fields: &mut Fields) -> Result<Line, Fault>
-    ensures { result ≡ body Advance fields.old }
-{
-    let day = fields.date()?;
-    fields.end()?;
-    let day = settle_date(day)?;
-    Ok(Line::Advance(day))
-}
-
 fn read_transfer(fields: &mut Fields) -> Result<Line, Fault>
-    ensures { result ≡ body Transfer fields.old }
+    ensures { result ≡ body Mark.Transfer fields.old }
 {
-    let from = fields.number()?;
-    let to = fields.number()?;
-    let amount = fields.number()?;
+    let from = fields.next_field::<Number>()?;
+    let to = fields.next_field::<Number>()?;
+    let amount = fields.next_field::<Number>()?;
     fields.end()?;
     Ok(Line::Transfer { from, to, amount })
 }
 
 fn read_redemption(fields: &mut Fields) -> Result<Line, Fault>
-    ensures { result ≡ body Redemption fields.old }
+    ensures { result ≡ body Mark.Redemption fields.old }
 {
-    let holder = fields.number()?;
-    let amount = fields.number()?;
+    let holder = fields.next_field::<Number>()?;
+    let amount = fields.next_field::<Number>()?;
     fields.end()?;
     Ok(Line::Redemption { holder, amount })
 }
 
 fn read_posting(fields: &mut Fields) -> Result<Line, Fault>
-    ensures { result ≡ body Posting fields.old }
+    ensures { result ≡ body Mark.Posting fields.old }
 {
     fields.end()?;
     Ok(Line::Posting)
 }
 
-fn read_payment(fields: &mut Fields) -> Result<Line, Fault>
-    ensures { result ≡ body Payment fields.old }
-{
-    let holder = fields.number()?;
-    fields.end()?;
-    Ok(Line::Payment(holder))
-}
-
+// Each mark has fields of its own and makes a line of its own, so this is a match over the marks.
 pub(crate) fn read_body(mark: Mark, fields: &mut Fields) -> Result<Line, Fault>
     ensures { result ≡ body mark fields.old }
 {
     match mark {
-        Mark::Pattern => read_pattern(fields),
-        Mark::ClosedDay => read_closed_day(fields),
-        Mark::Offset => read_offset(fields),
+        Mark::Pattern => lone_value::<Pattern>(fields).map(Line::Pattern),
+        Mark::ClosedDay => lone_value::<Date>(fields).map(Line::ClosedDay),
+        Mark::Offset => lone_value::<Offset>(fields).map(Line::Offset),
         Mark::Deal => read_deal(fields),
-        Mark::Holding => read_holding(fields),
-        Mark::Advance => read_advance(fields),
+        Mark::Holding => lone_field::<Number>(fields).map(Line::Holding),
+        Mark::Advance => lone_value::<Date>(fields).map(Line::Advance),
         Mark::Transfer => read_transfer(fields),
         Mark::Redemption => read_redemption(fields),
         Mark::Posting => read_posting(fields),
-        Mark::Payment => read_payment(fields),
+        Mark::Payment => lone_field::<Number>(fields).map(Line::Payment),
     }
 }

@@ -1,12 +1,14 @@
 // The words of a line, and how far they are read.
-ghost use Rattle.std.specs.Prelude.{◌+◌, ◌≤◌, length};
+ghost use Rattle.std.specs.Prelude.{◌≤◌};
+ghost use Rattle.text.specs.Cuts.{end_from};
 
-// The next word begins at an index of the line, which is past the end where no word is left.
+use crate::place::Place;
+
+// Words are taken from the front. So the place is that of the next word, or where the line ends.
 #[derive(Drop)]
 pub(crate) struct Fields<'a> {
-    pub(crate) line: &'a [u8],
-    pub(crate) number: u32,
-    pub(crate) from: usize,
-    ghost short: { length line.now ≤ 65536 },
-    ghost within: { from ≤ length line.now + 1 },
+    pub(crate) place: Place,
+    // absent where no word is left; an empty word may be
+    pub(crate) rest: Option<&'a [u8]>,
+    ghost short: { end_from place.column rest ≤ 65537 },
 }

@@ -1,18 +1,11 @@
-// Where the next space or line end stands.
-ghost use Rattle.std.specs.Prelude.{◌≡◌, ℕ, ◌<◌, ◌≤◌, length, ◌≢◌, slice_index};
+// Cutting where a byte stands first.
+ghost use Rattle.std.specs.Prelude.{MatchOption, ◌==◌};
+ghost use Rattle.text.specs.Cuts.{Splits, Without};
 
-// The index of the first such byte from an index on, or where the bytes end.
-pub(crate) fn find_from(bytes: &[u8], from: usize, byte: u8) -> usize
-    requires { from ≤ length bytes.now }
-    ensures after { from ≤ result }
-    ensures inside { result ≤ length bytes.now }
-    ensures before { (k : ℕ) → from ≤ k → k < result → slice_index bytes.now k ≢ byte }
-    ensures found { result < length bytes.now → slice_index bytes.now result ≡ byte }
+// What stands before the first such byte, and what behind it.
+pub(crate) fn split_once(bytes: &[u8], byte: u8) -> Option<(&[u8], &[u8])>
+    ensures { MatchOption result (Without byte bytes.now) (λ parts. Splits byte bytes.now parts.0.now parts.1.now) }
 {
-    for index in from..bytes.len() {
-        if bytes[index] == byte {
-            return index;
-        }
-    }
-    bytes.len()
+    let end = bytes.iter().position(|it| *it == byte)?;
+    Some((&bytes[..end], &bytes[end + 1..]))
 }

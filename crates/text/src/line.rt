@@ -52,7 +52,7 @@ pub enum Line {
 }
 
 impl Line {
-    // The mark that a line was read from.
+    // The mark that a line was read from. A match, since no derive gives the variant of one enum for that of another.
     pub(crate) fn mark(self) -> Mark
         ensures { result ≡ mark_from self }
     {

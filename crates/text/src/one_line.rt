@@ -9,6 +9,7 @@ use crate::fault::Fault;
 use crate::fields::Fields;
 use crate::line::Line;
 use crate::mark::Mark;
+use crate::place::Place;
 use crate::standing::Standing;
 use days::Refusal;
 
@@ -16,24 +17,18 @@ fn read_mark(fields: &mut Fields) -> Option<Mark>
     ensures taken { MarkTaken (left fields.old) result (left fields.new) }
     ensures same_line { ending fields.new ≡ ending fields.old }
 {
-    match fields.next_word() {
-        Ok(word) => Mark::of_word(word.value),
-        Err(_) => None,
-    }
+    let word = fields.next_word().ok()?;
+    Mark::of_word(word.value)
 }
 
 // What stands behind the mark is judged before the room for one more such line.
 fn read_marked(standing: Standing, mark: Mark, fields: &mut Fields) -> Result<Line, Fault>
     ensures { result ≡ body_of standing mark (ending fields.old) (left fields.old) }
 {
-    let number = fields.number;
+    let start = Place::of_line(fields.place.line);
     let line = read_body(mark, fields)?;
     if standing.is_full(mark) {
-        return Err(Fault {
-            refusal: Refusal::TooMany,
-            line: number,
-            column: 1,
-        });
+        return Err(start.refuses(Refusal::TooMany));
     }
     Ok(line)
 }
@@ -44,11 +39,7 @@ pub(crate) fn read_line(standing: Standing, number: u32, bytes: &[u8]) -> Result
     ensures { result ≡ line_of standing number bytes.now }
 {
     let mut fields = Fields::of_line(bytes, number);
-    let bad_mark = Fault {
-        refusal: Refusal::BadMark,
-        line: number,
-        column: 1,
-    };
+    let bad_mark = Place::of_line(number).refuses(Refusal::BadMark);
     let Some(mark) = read_mark(&mut fields) else {
         return Err(bad_mark);
     };

@@ -1,10 +1,11 @@
 // The values that a text may have, of those that words can say.
 ghost use Rattle.std.specs.Prelude.{◌≡◌};
-ghost use Rattle.text.specs.Fields.{settle};
-ghost use Rattle.text.specs.Kinds.{date, pattern, offset};
+ghost use Rattle.text.specs.Fields.{settle_by};
+ghost use Rattle.text.specs.Kinds.{settled, date, pattern, offset};
 
 use crate::at::At;
 use crate::fault::Fault;
+use crate::kind::{Date, Judged, Offset, Pattern};
 use days::Refusal;
 
 const MOST_CLOSED_WEEKDAYS: u32 = 6;
@@ -12,51 +13,51 @@ const MOST_CLOSED_WEEKDAYS: u32 = 6;
 const FURTHEST_OFFSET: i64 = 60;
 
 // A day of the range.
-pub(crate) fn settle_date(it: At<Option<u32>>) -> Result<At<u32>, Fault>
-    ensures { result ≡ settle date it }
-{
-    match it.value {
-        Some(value) => Ok(At {
-            value,
-            line: it.line,
-            column: it.column,
-        }),
-        None => Err(Fault {
-            refusal: Refusal::NoSuchDay,
-            line: it.line,
-            column: it.column,
-        }),
+impl Judged for Date {
+    type Value = u32;
+
+    ghost settles = { settled date };
+
+    fn settled(said: Option<u32>) -> Result<u32, Refusal> {
+        said.ok_or(Refusal::NoSuchDay)
     }
 }
 
 // A pattern that leaves a weekday open.
-pub(crate) fn settle_pattern(it: At<u8>) -> Result<At<u8>, Fault>
-    ensures { result ≡ settle pattern it }
-{
-    if it.value.count_ones() > MOST_CLOSED_WEEKDAYS {
-        return Err(Fault {
-            refusal: Refusal::ClosesWholeWeek,
-            line: it.line,
-            column: it.column,
-        });
+impl Judged for Pattern {
+    type Value = u8;
+
+    ghost settles = { settled pattern };
+
+    fn settled(mask: u8) -> Result<u8, Refusal> {
+        if mask.count_ones() > MOST_CLOSED_WEEKDAYS {
+            return Err(Refusal::ClosesWholeWeek);
+        }
+        Ok(mask)
     }
-    Ok(it)
 }
 
 // An offset of at most sixty days.
-pub(crate) fn settle_offset(it: At<i64>) -> Result<At<i32>, Fault>
-    ensures { result ≡ settle offset it }
-{
-    if it.value < -FURTHEST_OFFSET || it.value > FURTHEST_OFFSET {
-        return Err(Fault {
-            refusal: Refusal::OffsetOutOfRange,
-            line: it.line,
-            column: it.column,
-        });
+impl Judged for Offset {
+    type Value = i32;
+
+    ghost settles = { settled offset };
+
+    fn settled(days: i64) -> Result<i32, Refusal> {
+        if days < -FURTHEST_OFFSET || days > FURTHEST_OFFSET {
+            return Err(Refusal::OffsetOutOfRange);
+        }
+        Ok(days as i32)
     }
-    Ok(At {
-        value: it.value as i32,
-        line: it.line,
-        column: it.column,
-    })
+}
+
+// The value of a field, or why the text may not have it.
+pub(crate) fn settle<K: Judged>(it: At<K::Said>) -> Result<At<K::Value>, Fault>
+    ensures { result ≡ settle_by K.settles it }
+{
+    let place = it.place();
+    match K::settled(it.value) {
+        Ok(value) => Ok(place.holds(value)),
+        Err(refusal) => Err(place.refuses(refusal)),
+    }
 }

@@ -11,36 +11,42 @@ const MOST_OFFSETS: u32 = 8;
 
 const MOST_HOLDINGS: u32 = 16;
 
+// The lines of the calendar so far.
+#[derive(Clone, Copy)]
+pub(crate) struct CalendarLines {
+    pub(crate) has_pattern: bool,
+    pub(crate) dates: u32,
+    pub(crate) offsets: u32,
+}
+
 #[derive(Clone, Copy)]
 pub(crate) enum Standing {
     // after a call on a deal
     InCalls,
     // before the first deal
-    InCalendar {
-        has_pattern: bool,
-        dates: u32,
-        offsets: u32,
-    },
+    InCalendar(CalendarLines),
     // after a deal and so many of its holdings
-    InHoldings {
-        count: u32,
-    },
+    InHoldings { count: u32 },
 }
 
+// Each rule below is a match over where a line stands and its mark, as the format states it.
 impl Standing {
+    // Where the first line of a text stands.
+    pub(crate) const START: Standing = Standing::InCalendar(CalendarLines {
+        has_pattern: false,
+        dates: 0,
+        offsets: 0,
+    });
+
     // Whether a line with this mark may stand here.
     pub(crate) fn allows(self, mark: Mark) -> bool
         ensures { result ≡ allowed self mark }
     {
         match (self, mark) {
-            (Standing::InCalendar { has_pattern, .. }, Mark::Pattern) => !has_pattern,
-            (Standing::InCalendar { .. }, Mark::ClosedDay) => true,
-            (Standing::InCalendar { .. }, Mark::Offset) => true,
-            (Standing::InCalendar { .. }, Mark::Deal) => true,
-            (Standing::InCalendar { .. }, _) => false,
-            (_, Mark::Pattern) => false,
-            (_, Mark::ClosedDay) => false,
-            (_, Mark::Offset) => false,
+            (Standing::InCalendar(seen), Mark::Pattern) => !seen.has_pattern,
+            (Standing::InCalendar(_), Mark::ClosedDay | Mark::Offset | Mark::Deal) => true,
+            (Standing::InCalendar(_), _) => false,
+            (_, Mark::Pattern | Mark::ClosedDay | Mark::Offset) => false,
             (Standing::InCalls, Mark::Holding) => false,
             (_, _) => true,
         }
@@ -51,8 +57,8 @@ impl Standing {
         ensures { result ≡ full self mark }
     {
         match (self, mark) {
-            (Standing::InCalendar { dates, .. }, Mark::ClosedDay) => dates >= MOST_CLOSED_DAYS,
-            (Standing::InCalendar { offsets, .. }, Mark::Offset) => offsets >= MOST_OFFSETS,
+            (Standing::InCalendar(seen), Mark::ClosedDay) => seen.dates >= MOST_CLOSED_DAYS,
+            (Standing::InCalendar(seen), Mark::Offset) => seen.offsets >= MOST_OFFSETS,
             (Standing::InHoldings { count }, Mark::Holding) => count >= MOST_HOLDINGS,
             (_, _) => false,
         }
@@ -64,35 +70,18 @@ impl Standing {
         ensures { result ≡ next self mark }
     {
         match (self, mark) {
-            (Standing::InCalendar { dates, offsets, .. }, Mark::Pattern) => Standing::InCalendar {
+            (Standing::InCalendar(seen), Mark::Pattern) => Standing::InCalendar(CalendarLines {
                 has_pattern: true,
-                dates,
-                offsets,
-            },
-            (
-                Standing::InCalendar {
-                    has_pattern,
-                    dates,
-                    offsets,
-                },
-                Mark::ClosedDay,
-            ) => Standing::InCalendar {
-                has_pattern,
-                dates: dates + 1,
-                offsets,
-            },
-            (
-                Standing::InCalendar {
-                    has_pattern,
-                    dates,
-                    offsets,
-                },
-                Mark::Offset,
-            ) => Standing::InCalendar {
-                has_pattern,
-                dates,
-                offsets: offsets + 1,
-            },
+                ..seen
+            }),
+            (Standing::InCalendar(seen), Mark::ClosedDay) => Standing::InCalendar(CalendarLines {
+                dates: seen.dates + 1,
+                ..seen
+            }),
+            (Standing::InCalendar(seen), Mark::Offset) => Standing::InCalendar(CalendarLines {
+                offsets: seen.offsets + 1,
+                ..seen
+            }),
             (_, Mark::Deal) => Standing::InHoldings { count: 0 },
             (Standing::InHoldings { count }, Mark::Holding) => Standing::InHoldings {
                 count: count + 1,

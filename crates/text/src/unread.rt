@@ -1,4 +1,7 @@
 // Why a text is not read.
+ghost use Rattle.std.specs.Prelude.{◌≡◌};
+ghost use Rattle.text.specs.declared.unread.Unread.TheVariants.{Faulty};
+
 use crate::fault::Fault;
 
 #[derive(Clone, Copy, PartialEq, Eq, Debug)]
@@ -7,4 +10,12 @@ pub enum Unread {
     NoRoom,
     // the first fault of the text
     Faulty(Fault),
+}
+
+impl From<Fault> for Unread {
+    ghost from_gives = { λ why unread. unread ≡ Faulty why };
+
+    fn from(why: Fault) -> Unread {
+        Unread::Faulty(why)
+    }
 }

@@ -1,7 +1,7 @@
 -- Texts that are cut off at the end of a draft.
 -- Assumes nothing.
-use Rattle.std.proofs.Common.{◌≡◌, ℕ, zero, suc, ◌+◌, ◌<◌, ◌≤◌, List, [], ◌∷◌, ◌++◌, length, get_or, take, set, sym, refl, ap, ◌∙◌, append_assoc, append-nil, arith}
-use Rattle.std.proofs.lemmas.List.{take_all, take_more, take_more_set, take-append-le, length-take-le, length_push}
+use Rattle.std.proofs.Common.{◌≡◌, ℕ, zero, suc, ◌+◌, ◌<◌, List, [], ◌∷◌, ◌++◌, length, get_or, take, sym, refl, ap, ◌∙◌, append_assoc}
+use Rattle.std.proofs.lemmas.List.{take_more}
 
 -- what was cut off once stays off
 pub cut_again : (n : ℕ) (xs ys : List ℕ) → take n (take n xs ++ ys) ≡ take n (xs ++ ys)
@@ -15,31 +15,10 @@ pub cut_more :
 cut_more n text xs ys after e =
     ap (λ t. take n (t ++ ys)) e ∙ cut_again n (text ++ xs) ys ∙ ap (take n) (append_assoc text xs ys)
 
--- one byte where there is room
-pub push_room :
-    (bytes : List ℕ) (len byte : ℕ) → length bytes ≡ 128 → len < 128 →
-    take (len + 1) (set bytes len byte) ≡ take 128 (take len bytes ++ (byte ∷ []))
-push_room bytes len byte room less =
-    let inside : len < length bytes = omega arith in
-    let size : length (take len bytes ++ (byte ∷ [])) ≤ 128 =
-    omega (arith, length_push (take len bytes) byte, length-take-le len bytes (omega arith))
-    in
-    take_more_set bytes len byte inside ∙ sym (take_all 128 (take len bytes ++ (byte ∷ [])) size)
-
--- one byte where there is none
-pub push_full :
-    (bytes : List ℕ) (len byte : ℕ) → length bytes ≡ 128 → len ≤ 128 → 128 ≤ len →
-    take len bytes ≡ take 128 (take len bytes ++ (byte ∷ []))
-push_full bytes len byte room within full =
-    let size = length-take-le len bytes (omega arith) in
-    sym (take-append-le 128 (take len bytes) (byte ∷ []) (omega arith) ∙ take_all 128 (take len bytes) (omega arith))
-
--- a draft is never longer than it may be
-pub word_none :
-    (bytes : List ℕ) (len : ℕ) → length bytes ≡ 128 → len ≤ 128 → take len bytes ≡ take 128 (take len bytes ++ [])
-word_none bytes len room within =
-    let size = length-take-le len bytes (omega arith) in
-    sym (ap (take 128) (append-nil (take len bytes)) ∙ take_all 128 (take len bytes) (omega arith))
+pub then :
+    (text xs ys : List ℕ) {after final : List ℕ} → after ≡ take 128 (text ++ xs) → final ≡ take 128 (after ++ ys) →
+    final ≡ take 128 (text ++ (xs ++ ys))
+then text xs ys {after} so_far put = put ∙ cut_more 128 text xs ys after so_far
 
 -- a loop that puts the bytes of a word behind a text
 pub word_more :

@@ -1,9 +1,9 @@
 -- Lines laid one after the other.
 -- Assumes nothing.
-use Rattle.std.proofs.Common.{◌≡◌, ℕ, suc, ◌+◌, ◌-◌, ◌<◌, ◌≤◌, List, [], ◌∷◌, ◌++◌, length, get_or, take, drop, set, Ok, Err, Result, sym, refl, ap, ◌∙◌, subst, ⊎_elim, append-nil, arith, length-append, length-drop, length-take}
+use Rattle.std.proofs.Common.{◌≡◌, ℕ, suc, ◌+◌, ◌-◌, ◌<◌, ◌≤◌, min, List, [], ◌∷◌, ◌++◌, length, take, drop, Ok, Err, Result, sym, refl, ap, ◌∙◌, ⊎_elim, append-nil, arith, length-append, length-drop, length-take}
 use lib.Seq.{paste}
-use Rattle.std.proofs.lemmas.List.{take-append-drop, nil_from_length, length-take-le, get_or-take}
-use Rattle.std.proofs.lemmas.List.Edits.{paste_more, paste-paste, paste_all}
+use Rattle.std.proofs.lemmas.List.{take-append-drop, drop-drop, nil_from_length}
+use Rattle.std.proofs.lemmas.List.Edits.{paste-paste, paste_all}
 use Rattle.std.proofs.lemmas.Bool.{cases_lt}
 use Rattle.writing.specs.declared.laying.Full.{Full}
 use Rattle.writing.specs.Laying.{joined, fitting, with_bytes, fits_at, Laid}
@@ -41,16 +41,20 @@ with_more buffer at xs ys fits =
     ∙ ap (with_bytes buffer at) (sym (append-nil xs) ∙ ap (λ t. xs ++ t) (sym none)))
     (cases_lt at (suc (length buffer)))
 
--- a loop that copies the text of a draft
-pub copy_more :
-    (buffer bytes out : List ℕ) (at len i : ℕ) → length bytes ≡ 128 → len ≤ 128 → i < len → len ≤ length buffer - at →
-    out ≡ paste buffer at (take len bytes) i →
-    set out (at + i) (get_or bytes i 0) ≡ paste buffer at (take len bytes) (i + 1)
-copy_more buffer bytes out at len i room within less fits so_far =
-    let size = length-take-le len bytes (omega arith) in
-    ap (λ t. set t (at + i) (get_or bytes i 0)) so_far
-    ∙ ap (set (paste buffer at (take len bytes) i) (at + i)) (sym (get_or-take len bytes i 0 less))
-    ∙ paste_more buffer at (take len bytes) i 0 (omega arith) (omega arith)
+-- a text at a place, or at the end of the buffer where the place lies behind it
+pub placed :
+    (buffer text : List ℕ) (at start : ℕ) → start ≡ min at (length buffer) → length text ≤ length buffer - start →
+    take start buffer ++ (text ++ drop (length text) (drop start buffer)) ≡ with_bytes buffer at text
+placed buffer text at start is fits =
+    ap (λ t. take start buffer ++ (text ++ t)) (drop-drop (length text) start buffer)
+    ∙ ⊎_elim
+    (λ (inside : at < suc (length buffer)).
+    let same : start ≡ at = omega arith in ap (λ n. take n buffer ++ (text ++ drop (n + length text) buffer)) same)
+    (λ (past : suc (length buffer) ≤ at).
+    let none = nil_from_length text (omega arith) in
+    ap (with_bytes buffer start) none ∙ with_none buffer start ∙ sym (with_none buffer at)
+    ∙ ap (with_bytes buffer at) (sym none))
+    (cases_lt at (suc (length buffer)))
 
 -- a line that fits, and one that does not
 pub laid_line :
@@ -78,12 +82,6 @@ pub laid_none : (buffer : List ℕ) (at : ℕ) → Laid [] buffer at (Ok at) buf
 laid_none buffer at =
     let none = fitting_nil (length buffer - at) in
     (sym (with_none buffer at) ∙ ap (λ l. with_bytes buffer at (joined l)) (sym none), (none, omega arith))
-
--- lines under another name
-pub laid_same :
-    (xs ys : List (List ℕ)) (buffer : List ℕ) (at : ℕ) (r : Result ℕ Full) (after : List ℕ) → xs ≡ ys →
-    Laid xs buffer at r after → Laid ys buffer at r after
-laid_same xs ys buffer at r after same laid = subst (λ l. Laid l buffer at r after) same laid
 
 -- a buffer keeps its length
 pub laid_length :

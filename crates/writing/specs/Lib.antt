@@ -1,3 +1,2 @@
 pub mod Spelling
-pub mod Drafts
 pub mod Laying

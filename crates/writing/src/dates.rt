@@ -1,45 +1,33 @@
 // Dates, as yyyy-mm-dd.
 ghost use Rattle.std.specs.Prelude.{◌≡◌, ◌+◌, ◌<◌, ◌≤◌, ◌++◌, take};
 ghost use Rattle.days.specs.Calendar.{last_day};
-ghost use Rattle.writing.specs.Drafts.{text_of};
-ghost use Rattle.writing.specs.Spelling.{spelled_date, dated};
+ghost use Rattle.writing.specs.Spelling.{two, spelled_date};
 
 use crate::draft::Draft;
-use days::date_of;
-
-fn digit(n: u32) -> u8
-    requires { n < 10 }
-    ensures { result ≡ 48 + n }
-{
-    b'0' + n as u8
-}
-
-fn spelled(year: u32, month: u32, day: u32) -> [u8; 10]
-    requires { (year < 10000) × (month < 100) × (day < 100) }
-    ensures { result ≡ dated year month day }
-{
-    [
-        digit(year / 100 / 10),
-        digit(year / 100 % 10),
-        digit(year % 100 / 10),
-        digit(year % 100 % 10),
-        b'-',
-        digit(month / 10),
-        digit(month % 10),
-        b'-',
-        digit(day / 10),
-        digit(day % 10),
-    ]
-}
+use days::Date;
 
 impl Draft {
+    // A number below a hundred, with two digits.
+    fn two_digits(&mut self, n: u32)
+        requires { n < 100 }
+        ensures { self.new ≡ take 128 (self.old ++ two n) }
+    {
+        self.push(b'0' + (n / 10) as u8);
+        self.push(b'0' + (n % 10) as u8);
+    }
+
     // A day above the range of the calendar has no date, and nothing is written.
     pub fn date(&mut self, day: u32)
-        ensures inside { day ≤ last_day → text_of self.new ≡ take 128 (text_of self.old ++ spelled_date day) }
-        ensures above { last_day < day → text_of self.new ≡ text_of self.old }
+        ensures inside { day ≤ last_day → self.new ≡ take 128 (self.old ++ spelled_date day) }
+        ensures above { last_day < day → self.new ≡ self.old }
     {
-        if let Some((year, month, day_of_month)) = date_of(day) {
-            self.word(&spelled(year, month, day_of_month));
+        if let Some(Date { year, month, day }) = Date::of(day) {
+            self.two_digits(year / 100);
+            self.two_digits(year % 100);
+            self.push(b'-');
+            self.two_digits(month);
+            self.push(b'-');
+            self.two_digits(day);
         }
     }
 }

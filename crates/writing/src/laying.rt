@@ -1,6 +1,5 @@
 // A line laid into a buffer, whole or not at all.
 ghost use Rattle.std.specs.Prelude.{ℕ, List, [], ◌∷◌};
-ghost use Rattle.writing.specs.Drafts.{text_of};
 ghost use Rattle.writing.specs.Laying.{Laid, LongestFront, fitting};
 
 use crate::draft::Draft;
@@ -13,14 +12,15 @@ pub struct Full {
 
 // Lays a line into a buffer from a place on; answers where the next line goes.
 pub fn lay(line: &Draft, out: &mut [u8], at: usize) -> Result<usize, Full>
-    ensures laid { Laid (text_of line.now ∷ []) out.old at result out.new }
+    ensures laid { Laid (line.now ∷ []) out.old at result out.new }
     ensures longest { (room : ℕ) (lines : List (List ℕ)) → LongestFront room lines (fitting room lines) }
 {
-    if line.len > out.len().saturating_sub(at) {
+    let text = line.bytes.as_slice();
+    // Behind a place past the end there is no room, and a line of no bytes needs none.
+    let start = at.min(out.len());
+    if text.len() > out.len() - start {
         return Err(Full { written: at });
     }
-    for i in 0..line.len {
-        out[at + i] = line.bytes[i];
-    }
-    Ok(at + line.len)
+    out[start..start + text.len()].copy_from_slice(text);
+    Ok(at + text.len())
 }

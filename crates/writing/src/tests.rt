@@ -3,10 +3,7 @@ use crate::*;
 
 // Where a line ends, or how much of the buffer is written where it does not fit.
 fn laid(line: &Draft, out: &mut [u8], at: usize) -> Result<usize, usize> {
-    match lay(line, out, at) {
-        Ok(end) => Ok(end),
-        Err(full) => Err(full.written),
-    }
+    lay(line, out, at).map_err(|full| full.written)
 }
 
 #[test]

@@ -1,32 +1,30 @@
 // Bytes put behind a draft. What a draft has no room for is cut off.
 ghost use Rattle.std.specs.Prelude.{◌≡◌, [], ◌∷◌, ◌++◌, take};
-ghost use Rattle.writing.specs.Drafts.{text_of};
 
 use crate::draft::Draft;
+use shortlist::ShortList;
 
 impl Draft {
     // An empty line.
     pub fn new() -> Draft
-        ensures { text_of result ≡ [] }
+        ensures { result ≡ [] }
     {
         Draft {
-            bytes: [0; 128],
-            len: 0,
+            bytes: ShortList::new(),
         }
     }
 
     pub fn push(&mut self, byte: u8)
-        ensures { text_of self.new ≡ take 128 (text_of self.old ++ (byte ∷ [])) }
+        ensures { self.new ≡ take 128 (self.old ++ (byte ∷ [])) }
     {
-        if self.len < 128 {
-            self.bytes[self.len] = byte;
-            self.len += 1;
-        }
+        let _ = self.bytes.push(byte);
     }
 
     pub fn word(&mut self, bytes: &[u8])
-        ensures { text_of self.new ≡ take 128 (text_of self.old ++ bytes.now) }
+        ensures { self.new ≡ take 128 (self.old ++ bytes.now) }
     {
+        // Read for what it promises: a draft is never longer than its buffer.
+        let _ = &self.bytes;
         for byte in bytes {
             self.push(*byte);
         }

@@ -1,8 +1,9 @@
-use Rattle.std.proofs.Common.{◌<◌, ◌++◌, map, length, get_or, drop, ap, ◌∙◌, arith}
+use Rattle.std.proofs.Common.{◌≡◌, ◌<◌, ◌++◌, min, map, length, get_or, drop, ap, ◌∙◌, arith}
+use Rattle.std.proofs.lemmas.List.{length-take, get_or-take}
 use Rattle.counts.specs.Counting.{asked}
 use Rattle.register.specs.declared.call.Call.TheVariants.{Post}
 use Rattle.register.specs.Plain.{plain, played}
-use Rattle.register.specs.Runs.{fresh_view, stepped, outcome, run, outcomes, seen_answer}
+use Rattle.register.specs.Runs.{fresh_view, run, outcomes, seen_answer}
 use Rattle.register.specs.Views.{view_of}
 use Rattle.register.proofs.Playing.{played_more, played_all, played_long, beyond, call_at}
 use Rattle.register.proofs.Runs.{law_of_interest}
@@ -17,17 +18,15 @@ loop-i-preserved g c =
     let basis = c.loop-i.invariant.0 in
     let v = view_of c.loop-i.register in
     let call = plain (get_or calls i Post) in
+    let inside : i < min (length calls) (length before) = omega (arith, length-take c.min-count.result calls) in
     let few : i < length cs = omega (arith, played_long calls before) in
     let more =
     played_more (asked (g.D.DayCount.counted c.new-register.result.basis)) g.D.DayCount.per cs fresh_view
-    v (view_of c.answer_of.new.register) i call before
-    c.loop-i.answers c.answer_of.result few (omega arith) (call_at calls before i (omega arith) (omega arith))
-    (c.answer_of.ensures.view ∙ ap (λ b. stepped (asked (g.D.DayCount.counted b)) g.D.DayCount.per v call) basis)
-    (c.answer_of.ensures.value ∙ ap (λ b. outcome (asked (g.D.DayCount.counted b)) g.D.DayCount.per v call) basis)
-    c.loop-i.invariant.1
-    c.loop-i.invariant.2 c.loop-i.invariant.3
+    v (view_of c.apply.new.self) i call before
+    c.loop-i.answers c.apply.result few (omega arith) (call_at calls before i (omega arith) (omega arith))
+    (rw (basis, get_or-take c.min-count.result calls i Post (omega arith)) at c.apply.ensures.rule) c.loop-i.invariant.1 c.loop-i.invariant.2 c.loop-i.invariant.3
     in
-    (c.answer_of.ensures.basis ∙ basis, more.0, more.1, more.2)
+    (c.apply.ensures.basis ∙ basis, more.0, more.1, more.2)
 
 pub returns : goal.returns
 returns g c =
@@ -35,6 +34,7 @@ returns g c =
     let before = c.args.answers.now in
     let i = c.loop-i.i in
     let cs = played calls before in
+    let past : i ≡ min (length calls) (length before) = omega (arith, length-take c.min-count.result calls) in
     let basis = c.new-register.ensures.basis in
     let all =
     played_all (asked (g.D.DayCount.counted c.new-register.result.basis)) g.D.DayCount.per cs fresh_view

@@ -1,7 +1,6 @@
 use Rattle.std.proofs.Common.{◌≡◌, ◌+◌, ◌/◌, ◌^◌, ◌<◌, take, ap, ◌∙◌, arith}
-use Rattle.std.proofs.lemmas.List.{take_all}
 use Rattle.register.specs.Rows.{posted, total_units}
-use Rattle.register.proofs.Sweeps.{read_unswept, sweep_more, swept_all, post_fits, units_fit}
+use Rattle.register.proofs.Sweeps.{read_unswept, sweep_more, post_fits, units_fit}
 use Rattle.register.proofs.rows.post_rows.Goals as goal
 
 pub post-units-requires : goal.post-units-requires
@@ -33,12 +32,3 @@ loop-row-preserved c = (
       c.loop-row-test.true c.loop-row.invariant.0 c.post-units.ensures.after,
   (summed c).0,
 )
-
-pub returns : goal.returns
-returns c =
-    let rows = c.args.rows.now in
-    let i = c.loop-row.row-index in
-    record {
-      value = c.loop-row.invariant.1 ∙ ap (total_units c.args.v) (take_all i rows c.loop-row-test.false);
-      after = c.loop-row.invariant.0 ∙ swept_all (posted c.args.v) rows i c.loop-row-test.false;
-    }

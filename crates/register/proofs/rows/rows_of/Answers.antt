@@ -1,12 +1,7 @@
-use Rattle.std.proofs.Common.{set, ap, ◌∙◌, arith}
-use Rattle.register.proofs.Sweeps.{opened_more, opened_all}
+use Rattle.std.proofs.Common.{rules}
+use Rattle.register.proofs.Opening.{opened_by_place}
 use Rattle.register.proofs.rows.rows_of.Goals as goal
-
-pub loop-i-preserved : goal.loop-i-preserved
-loop-i-preserved c =
-    ap (set c.loop-i.rows c.loop-i.i) c.opened.ensures
-    ∙ opened_more c.args.holdings.now c.loop-i.rows c.loop-i.i c.loop-i-test.true c.requires c.loop-i.invariant
 
 pub returns : goal.returns
 returns c =
-    opened_all c.args.holdings.now c.loop-i.rows c.loop-i.i (omega arith) c.loop-i.invariant
+    opened_by_place _ _ c.from_fn.result c.args.holdings.now c.requires c.from_fn.ensures.items (λ i r q k. search rules)

@@ -1,19 +1,9 @@
-use Rattle.std.proofs.Common.{sym, ◌∙◌}
-use Rattle.std.proofs.lemmas.List.{at_drop_all}
-use Rattle.register.specs.Calls.{steady}
-use Rattle.register.proofs.Dates.{steady_step}
+use Rattle.register.proofs.Dates.{steady_where_rising, unsteady}
 use Rattle.register.proofs.terms.is_steady.Goals as goal
 
-pub returns-then-not-follows_well : goal.returns-then-not-follows_well
-returns-then-not-follows_well c =
-    let step = steady_step c.args.dates.now c.loop-index.index c.loop-index-test.true in
-    sym (rw (← c.if-not-follows_well.ensures) at step) ∙ c.loop-index.invariant
+pub returns-then-are_days : goal.returns-then-are_days
+returns-then-are_days c =
+    steady_where_rising c.args.dates.now c.rise_closely.result (c.are_days.ensures.0 c.if-are_days.true) c.rise_closely.ensures
 
-pub loop-index-preserved : goal.loop-index-preserved
-loop-index-preserved c =
-    let step = steady_step c.args.dates.now c.loop-index.index c.loop-index-test.true in
-    sym (rw (← c.if-not-follows_well.ensures) at step) ∙ c.loop-index.invariant
-
-pub returns : goal.returns
-returns c =
-    sym (at_drop_all steady c.args.dates.now c.loop-index.index c.loop-index-test.false) ∙ c.loop-index.invariant
+pub returns-else-are_days : goal.returns-else-are_days
+returns-else-are_days c = unsteady c.args.dates.now c.are_days.result c.are_days.ensures c.if-are_days.false

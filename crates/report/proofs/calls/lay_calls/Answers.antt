@@ -25,14 +25,14 @@ returns-in_default g c =
     let ends = call_ends count g.D.DayCount.per v v' lines c.args.number i (omega arith) called in
     record {
       laid =
-          onward_done _ c.loop-i.out c.loop-i.end
+          onward_done _ c.loop-i.page
           (call_lines count g.D.DayCount.per (view_of c.args.register.now) (numbered c.args.number (leading call_in lines)))
-          c.args.out.now c.args.at ends.0.lines c.loop-i.invariant.1;
+          c.args.page.now ends.0.lines c.loop-i.invariant.1;
       left = ends.1 ∙ (sym ends.0.end ∙ c.loop-i.invariant.2);
     }
 
-pub returns-in_err-end : goal.returns-in_err-end
-returns-in_err-end g c =
+pub returns-in_err-lay-clause-laid : goal.returns-in_err-lay-clause-laid
+returns-in_err-lay-clause-laid g c =
     let lines = c.args.lines.now in
     let i = c.loop-i.i in
     let count = asked (g.D.DayCount.counted c.args.register.now.basis) in
@@ -46,15 +46,11 @@ returns-in_err-end g c =
     let step = call_step count g.D.DayCount.per v v' lines c.args.number i answer (omega arith) called in
     let p = err_from_is_err_and c.from_residual.result c.from_residual.ensures.1 in
     rw (p.1, p.2)
-    (record {
-      laid =
-          onward_stops _ (answer_line (seen answer) (c.args.number + i))
-          (call_lines count g.D.DayCount.per v' (numbered (c.args.number + (i + 1)) (leading call_in (drop (i + 1) lines))))
-          c.loop-i.out c.loop-i.end
-          (call_lines count g.D.DayCount.per (view_of c.args.register.now) (numbered c.args.number (leading call_in lines)))
-          c.args.out.now c.args.at _ _ _ step.0 c.answer_draft.ensures c.loop-i.invariant.1 c.in_err-end.ensures.laid;
-      left = tt;
-    })
+    (onward_stops _ (answer_line (seen answer) (c.args.number + i))
+    (call_lines count g.D.DayCount.per v' (numbered (c.args.number + (i + 1)) (leading call_in (drop (i + 1) lines))))
+    c.loop-i.page
+    (call_lines count g.D.DayCount.per (view_of c.args.register.now) (numbered c.args.number (leading call_in lines)))
+    c.args.page.now _ _ _ step.0 c.answer_draft.ensures c.loop-i.invariant.1 c.in_err-lay.ensures)
 
 pub loop-i-preserved : goal.loop-i-preserved
 loop-i-preserved g c =
@@ -72,9 +68,9 @@ loop-i-preserved g c =
       c.call_on.ensures.basis ∙ c.loop-i.invariant.0,
       onward_more _ (answer_line (seen answer) (c.args.number + i))
           (call_lines count g.D.DayCount.per v' (numbered (c.args.number + (i + 1)) (leading call_in (drop (i + 1) lines))))
-          c.loop-i.out c.loop-i.end
+          c.loop-i.page
           (call_lines count g.D.DayCount.per (view_of c.args.register.now) (numbered c.args.number (leading call_in lines)))
-          c.args.out.now c.args.at _ _ _ step.0 c.answer_draft.ensures c.loop-i.invariant.1 c.in_ok-end.ensures.laid,
+          c.args.page.now _ _ step.0 c.answer_draft.ensures c.loop-i.invariant.1 c.in_ok-lay.ensures,
       sym step.1 ∙ c.loop-i.invariant.2,
     )
 
@@ -87,8 +83,8 @@ returns g c =
     let over = call_none count g.D.DayCount.per v lines c.args.number i (omega arith) in
     record {
       laid =
-          onward_done _ c.loop-i.out c.loop-i.end
+          onward_done _ c.loop-i.page
           (call_lines count g.D.DayCount.per (view_of c.args.register.now) (numbered c.args.number (leading call_in lines)))
-          c.args.out.now c.args.at over.lines c.loop-i.invariant.1;
+          c.args.page.now over.lines c.loop-i.invariant.1;
       left = sym over.end ∙ c.loop-i.invariant.2;
     }

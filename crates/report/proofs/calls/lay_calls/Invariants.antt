@@ -11,7 +11,7 @@ use Rattle.report.proofs.calls.lay_calls.Given as goal
 abbrev pub invariant-loop-i : goal.invariant-loop-i
 invariant-loop-i g l =
     (l.register.basis ≡ l.initial.register.basis)
-    × Onward (call_lines (asked (g.D.DayCount.counted l.initial.register.basis)) g.D.DayCount.per (view_of l.register) (numbered (l.number + l.i) (leading call_in (drop l.i l.lines)))) l.out l.end
-    (call_lines (asked (g.D.DayCount.counted l.initial.register.basis)) g.D.DayCount.per (view_of l.initial.register) (numbered l.number (leading call_in l.lines))) l.initial.out l.initial.end
+    × Onward (call_lines (asked (g.D.DayCount.counted l.initial.register.basis)) g.D.DayCount.per (view_of l.register) (numbered (l.number + l.i) (leading call_in (drop l.i l.lines)))) l.page
+    (call_lines (asked (g.D.DayCount.counted l.initial.register.basis)) g.D.DayCount.per (view_of l.initial.register) (numbered l.number (leading call_in l.lines))) l.initial.page
     × (run (asked (g.D.DayCount.counted l.initial.register.basis)) g.D.DayCount.per (view_of l.register) (leading call_in (drop l.i l.lines))
     ≡ run (asked (g.D.DayCount.counted l.initial.register.basis)) g.D.DayCount.per (view_of l.initial.register) (leading call_in l.lines))

@@ -11,7 +11,7 @@ returns-in_err-line c =
 pub returns-then-is_full : goal.returns-then-is_full
 returns-then-is_full c =
     sym (body_with_room c.args.standing c.args.mark c.args.fields.now
-    ∙ rw (← c.in_ok-line.ensures, ← c.if-is_full.ensures) refl)
+    ∙ rw (← c.in_ok-line.ensures, ← c.if-is_full.ensures, c.refuses.ensures, c.of_line-start.ensures) refl)
 
 pub returns : goal.returns
 returns c =

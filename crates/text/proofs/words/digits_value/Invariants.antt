@@ -4,4 +4,4 @@ use Rattle.text.proofs.words.digits_value.Given as goal
 
 abbrev pub invariant-loop-byte : goal.invariant-loop-byte
 invariant-loop-byte l =
-    (digits_from l.value (drop l.byte-index l.digits) ≡ digits_from 0 l.digits) × (l.value < 10 ^ l.byte-index)
+    (digits_from l.radix l.value (drop l.byte-index l.digits) ≡ digits_from l.radix 0 l.digits) × (l.value < l.radix ^ l.byte-index)

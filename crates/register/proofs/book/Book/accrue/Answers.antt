@@ -1,11 +1,6 @@
-use Rattle.register.proofs.Bounds.{accrue_room, accrue_bounded}
+use Rattle.register.proofs.Bounds.{accrue_bounded}
 use Rattle.register.proofs.Books.{bounded}
 use Rattle.register.proofs.book.Book.accrue.Goals as goal
-
-pub accrue_rows-requires : goal.accrue_rows-requires
-accrue_rows-requires c =
-    let s = c.args.self.now in
-    accrue_room s.rows s.tally s.period c.args.rate c.args.n (bounded s) c.requires.rate c.requires.within
 
 pub invariant_of-self : goal.invariant_of-self
 invariant_of-self c =

@@ -1,20 +1,8 @@
-use Rattle.std.proofs.Common.{◌*◌, sym, arith}
-use Rattle.std.proofs.lemmas.List.{length-take-le}
-use Rattle.std.proofs.lemmas.Bool.{leb-false}
-use Rattle.register.specs.Rules.{seen_state}
-use Rattle.register.specs.Views.{view_of}
-use Rattle.register.proofs.Accepted.{posting_open}
+use Rattle.std.proofs.Common.{arith}
 use Rattle.register.proofs.Bounds.{posted_ticks}
 use Rattle.register.proofs.state.Register.make_posting.Goals as goal
 
-pub begin-requires : goal.begin-requires
-begin-requires g c =
+pub begin-requires-clause-carried : goal.begin-requires-clause-carried
+begin-requires-clause-carried g c =
     let s = c.args.self.now in
-    let running = leb-false _ _ (posting_open (seen_state (view_of s)) (sym c.in_default.ensures)) in
-    let long = length-take-le s.terms.len s.terms.dates (omega arith) in
-    record {
-      periods = omega arith;
-      carried =
-          posted_ticks s.book.rows c.post-units.new.self.rows (100000 * c.per_year.result) s.book.room
-          (omega arith) (omega arith) c.post-units.ensures.rows;
-    }
+    posted_ticks s.book.rows c.post-units.new.self.rows _ s.book.room (omega arith) (omega arith) c.post-units.ensures.after.rows

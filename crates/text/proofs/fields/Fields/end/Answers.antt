@@ -3,7 +3,7 @@ use Rattle.text.specs.Left.{ending}
 use Rattle.text.proofs.WordSplits.{one_left}
 use Rattle.text.proofs.fields.Fields.end.Goals as goal
 
-pub returns : goal.returns
-returns c =
+pub returns-in-Some : goal.returns-in-Some
+returns-in-Some c =
     let fields = c.args.self.now in
-    sym (one_left fields.line.now fields.from (ending fields) c.if-self.false)
+    rw (c.refuses.ensures, c.in-Some.is) (sym (one_left fields.place.column c.in-Some.field-0.now (ending fields)))

@@ -1,14 +1,15 @@
 use Rattle.std.proofs.Common.{refl}
-use Rattle.text.proofs.WordSplits.{next_word}
+use Rattle.text.proofs.WordCuts.{words_last, words_cut}
 use Rattle.text.proofs.fields.Fields.next_word.Goals as goal
+use Rattle.text.proofs.fields.Fields.next_word.Goals.{in-Some-split_once, in-None}
 
-pub returns : goal.returns
-returns c =
-    let found = c.find_from-end.ensures in
-    record {
-      taken = (
-        next_word c.args.self.now.line.now c.args.self.now.from c.find_from-end.result found.after found.inside found.before found.found,
-        refl,
-      );
-      same_line = refl;
-    }
+pub returns-clause-taken : goal.returns-clause-taken
+returns-clause-taken c =
+    let column = c.args.self.now.place.column in
+    let rest = c.in-Some.rest.now in
+    elim c.match-split_once.branch [
+      | in-Some-split_once w ↦
+          let at = w.in-Some-split_once in
+          rw (c.holds.ensures, w.t-12-is, w.further.ensures, c.in-Some.is) (words_cut column rest at.word.now at.later.now at.ensures, refl)
+      | in-None w ↦ rw (c.holds.ensures, w.t-12-is, c.in-Some.is) (words_last column rest w.in-None.ensures, refl)
+    ]

@@ -1,11 +1,7 @@
-use Rattle.writing.proofs.Cuts.{push_room, push_full}
+use Rattle.writing.proofs.Filled.{pushed}
 use Rattle.writing.proofs.draft.Draft.push.Goals as goal
 
-pub returns-then-self-lt128 : goal.returns-then-self-lt128
-returns-then-self-lt128 c =
-    let s = c.args.self.now in push_room s.bytes s.len c.args.byte s.room c.if-self-lt128.true
-
-pub returns-else-self-lt128 : goal.returns-else-self-lt128
-returns-else-self-lt128 c =
-    let s = c.args.self.now in
-    push_full s.bytes s.len c.args.byte s.room s.within c.if-self-lt128.false
+pub returns : goal.returns
+returns c =
+    rw (← c.self.view_is)
+    (pushed c.self.inside.bytes c.args.byte c.push.result _ c.self.invariant c.push.ensures.room c.push.ensures.full)

@@ -1,8 +1,0 @@
-use Rattle.std.proofs.Common.{drop}
-use Rattle.report.specs.Printed.{sc_lines}
-use Rattle.report.proofs.Onward.{Onward}
-use Rattle.report.proofs.segments.lay_dates.Given as goal
-
-abbrev pub invariant-loop-index : goal.invariant-loop-index
-invariant-loop-index l =
-    Onward (sc_lines l.index (drop l.index l.days)) l.out l.end (sc_lines 0 l.days) l.initial.out l.initial.end

@@ -1,0 +1,4 @@
+use Rattle.writing.proofs.draft.Draft.+number.Given as goal
+
+abbrev pub decreases-number : goal.decreases-number
+decreases-number l = l.n
