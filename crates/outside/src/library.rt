@@ -32,37 +32,22 @@ pub fn number_of(date: Date) -> Option<u32>
 pub fn weekday_of(day: u32) -> u32
     ensures { result ≡ weekday_of day }
 {
-    match Weekday::of(day) {
-        Weekday::Monday => 0,
-        Weekday::Tuesday => 1,
-        Weekday::Wednesday => 2,
-        Weekday::Thursday => 3,
-        Weekday::Friday => 4,
-        Weekday::Saturday => 5,
-        Weekday::Sunday => 6,
-    }
+    Weekday::of(day) as u32
 }
 
 pub fn is_easter(figure: Date) -> bool
     ensures { Decides result (IsEaster figure) }
 {
-    match easter_date(figure.year) {
-        Some(date) => date == figure,
-        None => false,
-    }
+    easter_date(figure.year) == Some(figure)
 }
 
 // Both ways: from the number to the date, and from the date to the number.
 pub fn is_dated_day(figure: DatedDay) -> bool
     ensures { Decides result (IsDatedDay figure) }
 {
-    let Some(date) = date_of(figure.number) else {
-        return false;
-    };
-    let Some(number) = number_of(figure.date) else {
-        return false;
-    };
-    date == figure.date && number == figure.number && weekday_of(figure.number) == figure.weekday
+    date_of(figure.number) == Some(figure.date)
+        && number_of(figure.date) == Some(figure.number)
+        && weekday_of(figure.number) == figure.weekday
 }
 
 pub fn is_no_date(figure: Date) -> bool

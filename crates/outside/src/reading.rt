@@ -8,10 +8,7 @@ use crate::figures::{Date, DatedDay};
 fn whole_number(word: &str) -> Option<u32>
     ensures { Exactly result (λ n. Spells word.now n) }
 {
-    match word.parse::<u32>() {
-        Ok(number) => Some(number),
-        Err(_) => None,
-    }
+    word.parse().ok()
 }
 
 // The number before the first space, and what stands behind that space.
