@@ -2,7 +2,8 @@
 -- Assumes nothing.
 use Rattle.std.proofs.Common.{◌≡◌, ℕ, ◌+◌, ◌≤◌, leb, Some, ap, arith}
 use Rattle.std.proofs.lemmas.Bool.{leb-true}
-use Rattle.days.specs.Calendar.{leap, month_span, date_of, year_of, month_of, day_of, last_day}
+use Rattle.days.specs.Calendar.{leap, month_span, date, date_of, year_of, month_of, day_of, last_day}
+use Rattle.days.specs.declared.dates.Date.{Date}
 use Rattle.days.proofs.Checks.{some_tells}
 use Rattle.days.proofs.Spans.{start_suc}
 use Rattle.days.proofs.Months.{month_size}
@@ -17,13 +18,13 @@ pub record Found (n y m d : ℕ) : Type 0 where
   pub month_to : m ≤ 12
   pub day_to : d ≤ 31
 
-pub found : (n y m d : ℕ) → Some (y, m, d) ≡ date_of n → Found n y m d
+pub found : (n y m d : ℕ) → Some (date y m d) ≡ date_of n → Found n y m d
 found n y m d e =
-    let tells = some_tells (leb n last_day) (y, m, d) (year_of n, month_of n, day_of n) e in
+    let tells = some_tells (leb n last_day) (date y m d) (date (year_of n) (month_of n) (day_of n)) e in
     let inside : n ≤ last_day = leb-true n last_day tells.0 in
-    let year : y ≡ year_of n = ap (λ (t : ℕ × ℕ × ℕ). t.0) tells.1 in
-    let month : m ≡ month_of n = ap (λ (t : ℕ × ℕ × ℕ). t.1) tells.1 in
-    let day : d ≡ day_of n = ap (λ (t : ℕ × ℕ × ℕ). t.2) tells.1 in
+    let year : y ≡ year_of n = ap (λ (t : Date). t.year) tells.1 in
+    let month : m ≡ month_of n = ap (λ (t : Date). t.month) tells.1 in
+    let day : d ≡ day_of n = ap (λ (t : Date). t.day) tells.1 in
     let p = placed n inside in
     let b = leap (1900 + year_index n) in
     let size = month_size b (month_index n) p.months in

@@ -2,6 +2,7 @@
 -- Assumes nothing.
 use Rattle.std.specs.Prelude.{ℕ, ◌+◌, ◌-◌, ◌%◌, ◌≤◌, Bool, cond, not, ◌&&◌, ◌||◌, [], ◌∷◌, Some, None, Option, ◌==◌, nat_le, slice_index}
 use Rattle.days.specs.Spans.{start_of, span_of}
+use Rattle.days.specs.declared.dates.Date.{Date}
 
 abbrev pub first_year : ℕ
 first_year = 1900
@@ -61,9 +62,12 @@ month_of n = 1 + span_of (month_span (leap (year_of n))) 12 (day_in_year n)
 unfoldable pub day_of : ℕ → ℕ
 day_of n = 1 + (day_in_year n - start_of (month_span (leap (year_of n))) (month_of n - 1))
 
+abbrev pub date : ℕ → ℕ → ℕ → Date
+date y m d = record { year = y; month = m; day = d }
+
 -- the date of a day number, absent above the range
-abbrev pub date_of : ℕ → Option (ℕ × ℕ × ℕ)
-date_of n = cond (nat_le n last_day) (Some (year_of n, month_of n, day_of n)) None
+abbrev pub date_of : ℕ → Option Date
+date_of n = cond (nat_le n last_day) (Some (date (year_of n) (month_of n) (day_of n))) None
 
 -- the last day of the month that holds day n
 abbrev pub month_end : ℕ → ℕ

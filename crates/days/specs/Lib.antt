@@ -5,3 +5,4 @@ pub mod Easter
 pub mod Week
 pub mod Laws
 pub mod Refusals
+pub mod Texts

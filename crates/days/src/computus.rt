@@ -4,7 +4,7 @@ ghost use Rattle.days.specs.Calendar.{number_of};
 ghost use Rattle.days.specs.Easter.{easter_of, easter_number};
 ghost use Rattle.days.specs.Laws.{EasterIsSunday};
 
-use crate::dates::{FIRST_YEAR, day_number};
+use crate::dates::{Date, FIRST_YEAR};
 
 // The days from 21 March to Easter, of 1900 and of each year after it.
 const DAYS_AFTER_MARCH_21: [u8; 300] = [
@@ -36,6 +36,6 @@ pub fn easter(year: u32) -> Option<u32>
     ensures value { result ≡ easter_number year }
     ensures sunday { EasterIsSunday }
 {
-    let march_21 = day_number(year, 3, 21)?;
+    let march_21 = Date::new(year, 3, 21).number()?;
     Some(march_21 + days_after_march_21(year - FIRST_YEAR))
 }

@@ -3,11 +3,13 @@
 
 mod computus;
 mod dates;
+mod display;
 mod refusal;
 mod week;
 
 pub use computus::easter;
-pub use dates::{FIRST_YEAR, LAST_DAY, LAST_YEAR, date_of, day_number, days_in_month, month_end};
+pub use dates::{Date, FIRST_YEAR, LAST_DAY, LAST_YEAR, days_in_month, month_end};
+pub use display::DateOrNone;
 pub use refusal::{Layer, Refusal};
 pub use week::Weekday;
 

@@ -30,3 +30,12 @@ impl Weekday {
         }
     }
 }
+
+// 0 for Monday to 6 for Sunday.
+impl From<Weekday> for u32 {
+    ghost from_gives = { λ weekday n. n ≡ index_of weekday };
+
+    fn from(weekday: Weekday) -> u32 {
+        weekday as u32
+    }
+}

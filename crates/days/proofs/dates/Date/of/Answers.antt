@@ -2,7 +2,7 @@ use Rattle.std.proofs.Common.{arith}
 use Rattle.days.specs.Calendar.{year_span}
 use Rattle.days.proofs.Spans.{start_suc}
 use Rattle.days.proofs.Round.{lossless, no_date, date_found}
-use Rattle.days.proofs.dates.date_of.Goals as goal
+use Rattle.days.proofs.dates.Date.of.Goals as goal
 
 pub returns-then-day-gt-LAST_DAY : goal.returns-then-day-gt-LAST_DAY
 returns-then-day-gt-LAST_DAY c =
