@@ -1,7 +1,7 @@
 -- When a line of a file is right.
 -- Assumes nothing.
 use Rattle.std.specs.Prelude.{ℕ, List}
-use Rattle.outside.specs.declared.figures.Date.{Date}
+use Rattle.days.specs.declared.dates.Date.{Date}
 use Rattle.outside.specs.declared.figures.DatedDay.{DatedDay}
 use Rattle.outside.specs.declared.source.Source.{Source}
 use Rattle.outside.specs.declared.source.Source.TheVariants.{Easter, Dates, NoDates}

@@ -1,6 +1,7 @@
 // In what a line of a file and the library differ.
-use crate::figures::{Date, DatedDay};
+use crate::figures::DatedDay;
 use crate::library::{date_of, easter_date, number_of, weekday_of};
+use days::Date;
 use std::fmt;
 
 #[derive(Clone, Copy, PartialEq, Eq, Debug)]
@@ -17,49 +18,51 @@ pub enum Difference {
 impl fmt::Display for Difference {
     fn fmt<W: fmt::Write>(&self, f: &mut fmt::Formatter<W>) -> fmt::Result {
         match *self {
-            Difference::Unreadable => write!(
-                f,
-                "expected numbers with a space between two, found something else"
-            ),
-            Difference::OtherEaster(date) => {
-                let library = DateText(easter_date(date.year));
-                write!(f, "expected Easter on {date}, the library says {library}")
+            Difference::Unreadable => {
+                f.write_str("expected numbers with a space between two, found something else")
             }
-            Difference::OtherDay(
-                DatedDay {
-                    number,
-                    date,
-                    weekday,
-                },
-            ) => {
-                write!(f, "expected day {number}, {date}, weekday {weekday}")?;
-                let date_text = DateText(date_of(number));
-                let number_text = NumberText(number_of(date));
-                let weekday = weekday_of(number);
+            Difference::OtherEaster(date) => {
+                let expected = DateText(Some(date));
+                let library = DateText(easter_date(date.year));
                 write!(
                     f,
-                    ", the library says {number_text}, {date_text}, weekday {weekday}"
+                    "expected Easter on {expected}, the library says {library}"
                 )
             }
+            Difference::OtherDay(day) => {
+                let expected = DayText {
+                    number: NumberText(Some(day.number)),
+                    date: DateText(Some(day.date)),
+                    weekday: day.weekday,
+                };
+                let library = DayText {
+                    number: NumberText(number_of(day.date)),
+                    date: DateText(date_of(day.number)),
+                    weekday: weekday_of(day.number),
+                };
+                write!(f, "expected {expected}, the library says {library}")
+            }
             Difference::NotRefused(date) => {
+                let expected = DateText(Some(date));
                 let library = NumberText(number_of(date));
                 write!(
                     f,
-                    "expected {date} to be refused, the library says {library}"
+                    "expected {expected} to be refused, the library says {library}"
                 )
             }
         }
     }
 }
 
+// A date as the files have it, with no zeros in front.
 #[derive(Clone, Copy)]
 struct DateText(Option<Date>);
 
 impl fmt::Display for DateText {
     fn fmt<W: fmt::Write>(&self, f: &mut fmt::Formatter<W>) -> fmt::Result {
         match self.0 {
-            Some(date) => write!(f, "{date}"),
-            None => write!(f, "no date"),
+            Some(Date { year, month, day }) => write!(f, "{year}-{month}-{day}"),
+            None => f.write_str("no date"),
         }
     }
 }
@@ -71,7 +74,25 @@ impl fmt::Display for NumberText {
     fn fmt<W: fmt::Write>(&self, f: &mut fmt::Formatter<W>) -> fmt::Result {
         match self.0 {
             Some(number) => write!(f, "day {number}"),
-            None => write!(f, "no day"),
+            None => f.write_str("no day"),
         }
+    }
+}
+
+#[derive(Clone, Copy)]
+struct DayText {
+    number: NumberText,
+    date: DateText,
+    weekday: u32,
+}
+
+impl fmt::Display for DayText {
+    fn fmt<W: fmt::Write>(&self, f: &mut fmt::Formatter<W>) -> fmt::Result {
+        let DayText {
+            number,
+            date,
+            weekday,
+        } = *self;
+        write!(f, "{number}, {date}, weekday {weekday}")
     }
 }

@@ -4,8 +4,8 @@ ghost use Rattle.days.specs.Calendar.{weekday_of};
 ghost use Rattle.outside.specs.Exactly.{Exactly};
 ghost use Rattle.outside.specs.Figures.{Dated, day_number, IsEaster, IsDatedDay};
 
-use crate::figures::{Date, DatedDay};
-use days::Weekday;
+use crate::figures::DatedDay;
+use days::{Date, Weekday};
 
 // The date of a year's Easter Sunday; none outside the library's years.
 pub fn easter_date(year: u32) -> Option<Date>
@@ -18,21 +18,20 @@ pub fn easter_date(year: u32) -> Option<Date>
 pub fn date_of(day: u32) -> Option<Date>
     ensures { Exactly result (λ date. Dated date × (day_number date ≡ day)) }
 {
-    let (year, month, day) = days::date_of(day)?;
-    Some(Date { year, month, day })
+    Date::of(day)
 }
 
 pub fn number_of(date: Date) -> Option<u32>
     ensures { Exactly result (λ n. Dated date × (day_number date ≡ n)) }
 {
-    days::day_number(date.year, date.month, date.day)
+    date.number()
 }
 
 // 0 for Monday to 6 for Sunday, as the files have it.
 pub fn weekday_of(day: u32) -> u32
     ensures { result ≡ weekday_of day }
 {
-    Weekday::of(day) as u32
+    Weekday::of(day).into()
 }
 
 pub fn is_easter(figure: Date) -> bool

@@ -3,7 +3,8 @@ ghost use Rattle.std.specs.Prelude.{◌≡◌, ℕ, List, IfSome, MatchOption};
 ghost use Rattle.outside.specs.Exactly.{Exactly};
 ghost use Rattle.outside.specs.Lines.{Spells, Leads, DateLine, DatedDayLine};
 
-use crate::figures::{Date, DatedDay};
+use crate::figures::DatedDay;
+use days::Date;
 
 fn whole_number(word: &str) -> Option<u32>
     ensures { Exactly result (λ n. Spells word.now n) }
