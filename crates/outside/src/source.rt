@@ -7,6 +7,7 @@ use crate::difference::Difference;
 use crate::library::{is_dated_day, is_easter, is_no_date};
 use crate::reading::{read_date, read_dated_day};
 
+// There are just these three files, and each method says by a match what differs between them.
 #[derive(Clone, Copy)]
 pub enum Source {
     Easter,
@@ -43,7 +44,7 @@ impl Source {
     }
 }
 
-// The figure is that of a line, if the line could be read.
+// Of the figure that stands on a line, or none where the line could not be read.
 fn judge_figure<T: Copy, R: FnOnce(T) -> bool, D: FnOnce(T) -> Difference>(
     figure: Option<T>,
     is_right: R,
