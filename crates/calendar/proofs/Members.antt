@@ -1,28 +1,21 @@
 -- The tests by which a list is searched say what `contains` answers.
 -- Assumes nothing.
-use Rattle.std.proofs.Common.{◌≡◌, ℕ, ◌≤◌, Bool, ◌||◌, eqb, List, ℤ, pos, negsuc, Decides, refl, ap, arith}
+use Rattle.std.proofs.Common.{◌≡◌, ℕ, ◌≤◌, Bool, ◌||◌, eqb, List, ℤ, Decides, refl}
 use Rattle.days.specs.Calendar.{last_day}
 use Rattle.std.proofs.lemmas.Bool.{le-ltb}
+use Rattle.std.specs.Ordering.{int_eq}
 use Rattle.calendar.specs.Closed.{above_range}
 use Rattle.std.specs.List.{ContainsAt as Has}
-use Rattle.std.proofs.lemmas.Bool.Decides.{Decides-by_or, Decides-eqb, Decides-like}
-use Rattle.calendar.specs.Kinds.{listed, same_offset, offset_listed}
+use Rattle.std.proofs.lemmas.Bool.Decides.{Decides-by_or, Decides-eqb, Decides-int_eq}
+use Rattle.calendar.specs.Kinds.{listed, offset_listed}
 
 pub listed_decides : (days : List ℕ) (n : ℕ) → Decides (listed days n) (Has days n)
 listed_decides days n =
     Decides-by_or (λ day. eqb day n) (λ day. day ≡ n) (λ ds. listed ds n) (λ day. Decides-eqb day n) refl (λ _ _. refl) days
 
-pub same_offset_decides : (x z : ℤ) → Decides (same_offset x z) (x ≡ z)
-same_offset_decides (pos a) (pos b) =
-    Decides-like (eqb a b) (λ e. ap pos e) (λ e. let same : a ≡ b = cc in same) (Decides-eqb a b)
-same_offset_decides (pos a) (negsuc b) = (λ e. absurd (let z : ◌≡◌ {A = ℕ} 0 1 = cc in omega arith), λ e. absurd (let z : ◌≡◌ {A = ℕ} 0 1 = cc in omega arith))
-same_offset_decides (negsuc a) (pos b) = (λ e. absurd (let z : ◌≡◌ {A = ℕ} 0 1 = cc in omega arith), λ e. absurd (let z : ◌≡◌ {A = ℕ} 0 1 = cc in omega arith))
-same_offset_decides (negsuc a) (negsuc b) =
-    Decides-like (eqb a b) (λ e. ap negsuc e) (λ e. let same : a ≡ b = cc in same) (Decides-eqb a b)
-
 pub offset_decides : (offsets : List ℤ) (z : ℤ) → Decides (offset_listed offsets z) (Has offsets z)
 offset_decides offsets z =
-    Decides-by_or (λ x. same_offset x z) (λ x. x ≡ z) (λ xs. offset_listed xs z) (λ x. same_offset_decides x z) refl
+    Decides-by_or (λ x. int_eq x z) (λ x. x ≡ z) (λ xs. offset_listed xs z) (λ x. Decides-int_eq x z) refl
     (λ _ _. refl) offsets
 
 -- within the range a set answers as what stands behind its question for the range

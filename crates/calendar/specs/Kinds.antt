@@ -1,6 +1,8 @@
 -- What each kind of closed-day set closes.
 -- Assumes nothing.
-use Rattle.std.specs.Prelude.{◌≡◌, ℕ, ◌-◌, ◌/◌, ◌%◌, ◌^◌, ◌<◌, ◌≤◌, Bool, true, false, ◌&&◌, ◌||◌, List, [], ◌∷◌, length, ℤ, pos, negsuc, ◌+ℤ◌, ◌-ℤ◌, ◌==◌, nat_le, nat_lt, slice_index_or}
+use Rattle.std.specs.Prelude.{◌≡◌, ℕ, ◌-◌, ◌/◌, ◌%◌, ◌^◌, ◌<◌, ◌≤◌, Bool, true, ◌||◌, List, length, ℤ, pos, negsuc, ◌+ℤ◌, ◌-ℤ◌, ◌==◌, nat_le, nat_lt, slice_index_or}
+use Rattle.std.specs.List.{list_any, list_all}
+use Rattle.std.specs.Ordering.{int_eq}
 use Rattle.days.specs.Calendar.{weekday_of, year_of, last_day, first_year, last_year}
 use Rattle.days.specs.Easter.{easter_of}
 use Rattle.calendar.specs.Closed.{above_range}
@@ -13,21 +15,13 @@ abbrev pub pattern_closes : ℕ → ℕ → Bool
 pattern_closes mask n = above_range n || marks mask (weekday_of n)
 
 abbrev pub listed : List ℕ → ℕ → Bool
-listed [] n = false
-listed (day ∷ days) n = day == n || listed days n
+listed days n = list_any (λ day. day == n) days
 
 abbrev pub list_closes : List ℕ → ℕ → Bool
 list_closes days n = above_range n || listed days n
 
-abbrev pub same_offset : ℤ → ℤ → Bool
-same_offset (pos a) (pos b) = a == b
-same_offset (pos a) (negsuc b) = false
-same_offset (negsuc a) (pos b) = false
-same_offset (negsuc a) (negsuc b) = a == b
-
 abbrev pub offset_listed : List ℤ → ℤ → Bool
-offset_listed [] z = false
-offset_listed (offset ∷ offsets) z = same_offset offset z || offset_listed offsets z
+offset_listed offsets z = list_any (λ offset. int_eq offset z) offsets
 
 -- the day stands at one of the offsets from the Easter of its year
 abbrev pub easter_closes : List ℤ → ℕ → Bool
@@ -48,5 +42,4 @@ within_sixty (pos a) = nat_le a 60
 within_sixty (negsuc a) = nat_lt a 60
 
 abbrev pub all_within_sixty : List ℤ → Bool
-all_within_sixty [] = true
-all_within_sixty (offset ∷ offsets) = within_sixty offset && all_within_sixty offsets
+all_within_sixty = list_all within_sixty

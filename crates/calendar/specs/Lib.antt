@@ -1,5 +1,6 @@
 pub mod Closed
 pub mod Kinds
+pub mod Filler
 pub mod Refused
 pub mod Rolling
 pub mod Relations

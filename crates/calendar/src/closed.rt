@@ -6,9 +6,9 @@ ghost use Rattle.calendar.specs.Closed.{Lawful};
 pub trait ClosedDays {
     ghost closed: { Self → ℕ → Bool };
 
-    ghost lawful: { Lawful closed };
-
     // Whether a day is closed. Any number may be asked.
     fn is_closed(&self, day: u32) -> bool
         ensures { result ≡ closed self.now day };
+
+    ghost lawful: { Lawful closed };
 }

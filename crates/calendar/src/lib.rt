@@ -14,7 +14,7 @@ pub use common::weekends_and_easter;
 pub use list::DatedList;
 pub use movable::EasterRule;
 pub use pattern::WeekdayPattern;
-pub use rolling::Convention;
+pub use rolling::{Convention, UnknownLetter};
 pub use union::Union;
 
 #[cfg(test)]

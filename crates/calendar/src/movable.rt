@@ -1,5 +1,5 @@
 // Closed days at fixed distances from Easter, as Good Friday and Easter Monday.
-ghost use Rattle.std.specs.Prelude.{◌≡◌, ◌<◌, ◌≤◌, true, length, take, pos, ◌-ℤ◌, MatchResult};
+ghost use Rattle.std.specs.Prelude.{◌≡◌, ◌≤◌, true, length, pos, ◌-ℤ◌, MatchResult};
 ghost use Rattle.days.specs.Calendar.{year_of};
 ghost use Rattle.days.specs.Easter.{easter_of};
 ghost use Rattle.calendar.specs.Closed.{range_first};
@@ -7,23 +7,39 @@ ghost use Rattle.calendar.specs.Kinds.{offset_listed, easter_closes, within_sixt
 ghost use Rattle.calendar.specs.Refused.{OffsetsRefused};
 
 use crate::closed::ClosedDays;
-use days::{Refusal, date_of, easter};
+use days::{Date, Refusal, easter};
+use std::marker::Model;
 
 const MOST_OFFSETS: usize = 8;
 
-// Closes, in each year, Easter plus each offset that is kept.
+// The offsets, each of which closes the day that stands there from Easter in each year. A rule is copied, and needs no
+// heap, so they lie in an array with their number beside it, and zeros behind them.
 #[derive(Clone, Copy)]
 pub struct EasterRule {
-    offsets: [i32; 8],
+    offsets: [i32; MOST_OFFSETS],
     count: usize,
-    ghost few: { count ≤ 8 },
-    ghost room: { length offsets ≡ 8 },
+}
+
+impl Model for EasterRule {
+    ghost use Rattle.std.specs.Prelude.{List, ℤ};
+
+    ghost Value = { List ℤ };
+
+    ghost use Rattle.calendar.specs.Filler.{Filled, offsets_of, filled, gives_back};
+
+    ghost view = { offsets_of };
+
+    ghost invariant = { Filled };
+
+    ghost inverse = { filled };
+
+    ghost inverse_ok = { gives_back };
 }
 
 impl EasterRule {
     // A rule for up to 8 offsets from -60 to +60. An offset out of that range is refused first, then a ninth.
     pub fn new(offsets: &[i32]) -> Result<EasterRule, Refusal>
-        ensures { MatchResult result (λ e. (take e.count e.offsets ≡ offsets.now) × ClosesAroundEaster (easter_closes offsets.now) offsets.now × (all_within_sixty offsets.now ≡ true) × (length offsets.now ≤ 8)) (λ e. OffsetsRefused e offsets.now) }
+        ensures { MatchResult result (λ rule. (rule ≡ offsets.now) × ClosesAroundEaster (easter_closes offsets.now) offsets.now × (all_within_sixty offsets.now ≡ true) × (length offsets.now ≤ 8)) (λ e. OffsetsRefused e offsets.now) }
     {
         if !all_within_sixty(offsets) {
             return Err(Refusal::OffsetOutOfRange);
@@ -31,15 +47,18 @@ impl EasterRule {
         if offsets.len() > MOST_OFFSETS {
             return Err(Refusal::TooMany);
         }
+        let count = offsets.len();
+        let mut kept = [0; MOST_OFFSETS];
+        kept[0..count].copy_from_slice(offsets);
         Ok(EasterRule {
-            offsets: padded(offsets),
-            count: offsets.len(),
+            offsets: kept,
+            count,
         })
     }
 
     // Whether an offset is one of those kept.
     fn keeps(&self, offset: i32) -> bool
-        ensures { result ≡ offset_listed (take self.now.count self.now.offsets) offset }
+        ensures { result ≡ offset_listed self.now offset }
     {
         self.offsets[0..self.count].contains(&offset)
     }
@@ -54,36 +73,19 @@ fn is_within_sixty(offset: i32) -> bool
 fn all_within_sixty(offsets: &[i32]) -> bool
     ensures { result ≡ all_within_sixty offsets.now }
 {
-    for offset in offsets {
-        if !is_within_sixty(*offset) {
-            return false;
-        }
-    }
-    true
-}
-
-// The offsets, with zeros behind them.
-fn padded(offsets: &[i32]) -> [i32; 8]
-    requires { length offsets.now ≤ 8 }
-    ensures { take (length offsets.now) result ≡ offsets.now }
-{
-    let mut all = [0; 8];
-    for (i, offset) in offsets.iter().enumerate() {
-        all[i] = *offset;
-    }
-    all
+    offsets.iter().all(|offset| is_within_sixty(*offset))
 }
 
 impl ClosedDays for EasterRule {
-    ghost closed = { λ e n. easter_closes (take e.count e.offsets) n };
+    ghost closed = { easter_closes };
 
-    ghost lawful = { λ e. range_first (λ n. offset_listed (take e.count e.offsets) (pos n -ℤ pos (easter_of (year_of n)))) };
+    ghost lawful = { λ rule. range_first (λ n. offset_listed rule (pos n -ℤ pos (easter_of (year_of n)))) };
 
     fn is_closed(&self, day: u32) -> bool {
-        let Some((year, _, _)) = date_of(day) else {
+        let Some(date) = Date::of(day) else {
             return true;
         };
-        let Some(sunday) = easter(year) else {
+        let Some(sunday) = easter(date.year) else {
             return true;
         };
         self.keeps(day as i32 - sunday as i32)

@@ -1,5 +1,5 @@
 // Rolling a day off closed days.
-ghost use Rattle.std.specs.Prelude.{◌≡◌, ◌+◌, ◌<◌, ◌≤◌};
+ghost use Rattle.std.specs.Prelude.{◌≡◌, ◌+◌, ◌<◌, ◌≤◌, ok_or};
 ghost use Rattle.calendar.specs.Letters.{convention_of};
 ghost use Rattle.calendar.specs.Rolling.{rolled};
 ghost use Rattle.calendar.specs.Refused.{RollsOrRefused};
@@ -20,20 +20,30 @@ pub enum Convention {
     Unadjusted,
 }
 
-impl Convention {
-    // The convention of a letter: F, M, P or U.
-    pub fn from_letter(letter: char) -> Option<Convention>
-        ensures { result ≡ convention_of letter }
-    {
+// A letter that names no convention.
+#[derive(Clone, Copy, PartialEq, Eq, Debug)]
+pub struct UnknownLetter {
+    pub letter: char,
+}
+
+// The convention of a letter: F, M, P or U.
+impl TryFrom<char> for Convention {
+    type Error = UnknownLetter;
+
+    ghost try_from_gives = { λ letter r. r ≡ ok_or (convention_of letter) (record { letter = letter }) };
+
+    fn try_from(letter: char) -> Result<Convention, UnknownLetter> {
         match letter {
-            'F' => Some(Convention::Following),
-            'M' => Some(Convention::ModifiedFollowing),
-            'P' => Some(Convention::Preceding),
-            'U' => Some(Convention::Unadjusted),
-            _ => None,
+            'F' => Ok(Convention::Following),
+            'M' => Ok(Convention::ModifiedFollowing),
+            'P' => Ok(Convention::Preceding),
+            'U' => Ok(Convention::Unadjusted),
+            _ => Err(UnknownLetter { letter }),
         }
     }
+}
 
+impl Convention {
     // The day that a day rolls to; absent where there is no open day in reach, or the day is above the range.
     pub fn roll<S: ClosedDays>(self, set: &S, day: u32) -> Option<u32>
         ensures value { result ≡ rolled (S.ClosedDays.closed set.now) self day }
@@ -51,10 +61,7 @@ impl Convention {
     pub fn roll_date<S: ClosedDays>(self, set: &S, day: u32, index: u32) -> Result<u32, Refusal>
         ensures { RollsOrRefused (rolled (S.ClosedDays.closed set.now) self day) index result }
     {
-        match self.roll(set, day) {
-            Some(open) => Ok(open),
-            None => Err(Refusal::NoDayToRollTo(index)),
-        }
+        self.roll(set, day).ok_or(Refusal::NoDayToRollTo(index))
     }
 }
 
@@ -100,6 +107,7 @@ fn roll_modified<S: ClosedDays>(set: &S, day: u32) -> Option<u32>
     ensures { RollsWithin (S.ClosedDays.closed set.now) ModifiedFollowing day result }
 {
     let end = month_end(day)?;
+    // By `or_else` the second search would stand in a closure, which needs the bound of the day as a clause of its own.
     match first_open(set, day, end) {
         Some(open) => Some(open),
         None => last_open(set, day.saturating_sub(REACH), day),

@@ -1,6 +1,6 @@
 // Examples of sets, refusals and rolling.
 use crate::*;
-use days::{Layer, Refusal, day_number};
+use days::{Date, Layer, Refusal};
 use std::test::Fail;
 
 // 30 days in a row from day 100 on, out of order and with a repeat.
@@ -57,25 +57,28 @@ fn refused_sets(rt: HostRuntime) {
 #[test]
 fn good_friday(rt: HostRuntime) -> Result<(), Fail> {
     let set = weekends_and_easter();
-    let friday = day_number(2024, 3, 29).ok_or("no date")?;
+    let friday = Date::new(2024, 3, 29).number().ok_or("no date")?;
     assert_eq!(rt;
         Convention::Following.roll(&set, friday),
-        day_number(2024, 4, 2)
+        Date::new(2024, 4, 2).number()
     );
     assert_eq!(rt;
         Convention::ModifiedFollowing.roll(&set, friday),
-        day_number(2024, 3, 28)
+        Date::new(2024, 3, 28).number()
     );
     assert_eq!(rt;
         Convention::Preceding.roll(&set, friday),
-        day_number(2024, 3, 28)
+        Date::new(2024, 3, 28).number()
     );
     assert!(rt; set.is_closed(109_573));
     assert_eq!(rt; Convention::Following.roll(&set, 109_573), None);
     assert_eq!(rt;
-        Convention::from_letter('M'),
-        Some(Convention::ModifiedFollowing)
+        Convention::try_from('M'),
+        Ok(Convention::ModifiedFollowing)
     );
-    assert_eq!(rt; Convention::from_letter('m'), None);
+    assert_eq!(rt;
+        Convention::try_from('m'),
+        Err(UnknownLetter { letter: 'm' })
+    );
     Ok(())
 }

@@ -5,7 +5,7 @@ use Rattle.std.proofs.Common.{arith}
 use Rattle.counts.specs.Bases.{actual}
 use Rattle.counts.specs.Counting.{Lawful}
 
-actual_lawful : (per : ℕ) → 267 ≤ per → per ≤ 366 → Lawful actual per
+pub actual_lawful : (per : ℕ) → 267 ≤ per → per ≤ 366 → Lawful actual per
 actual_lawful per long few =
     record {
       some = omega arith;

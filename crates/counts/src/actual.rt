@@ -1,58 +1,52 @@
 // Actual day counts: the days that pass.
-ghost use Rattle.std.specs.Prelude.{◌≡◌};
-ghost use Rattle.counts.specs.Actual.{actual_360_lawful, actual_365_lawful};
+ghost use Rattle.std.specs.Prelude.{◌≡◌, ◌≤◌};
+ghost use Rattle.counts.specs.Actual.{actual_lawful};
 ghost use Rattle.counts.specs.Bases.{actual};
-ghost use Rattle.counts.specs.Counting.{asked};
 
+use crate::asked::asked;
 use crate::count::DayCount;
-use days::LAST_DAY;
 
-// Actual/360: the days that pass, over 360.
+// The days that pass, over a year of so many days. A shorter year could not take the longest stretch of a period.
 #[derive(Clone, Copy)]
-pub struct Actual360;
+pub struct Actual<const YEAR: u32> {
+    ghost long: { 267 ≤ YEAR },
+    ghost short: { YEAR ≤ 366 },
+}
 
-// Actual/365 (fixed): the days that pass, over 365.
-#[derive(Clone, Copy)]
-pub struct Actual365;
+// Actual/360.
+pub type Actual360 = Actual<360>;
 
-fn days_passed(a: u32, b: u32) -> u32
-    ensures { result ≡ asked actual a b }
+// Actual/365 (fixed).
+pub type Actual365 = Actual<365>;
+
+pub fn actual_360() -> Actual360
+    ensures { ⟦<Actual360 as DayCount>⟧.per ≡ 360 }
 {
-    if a <= b && b <= LAST_DAY { b - a } else { 0 }
+    Actual {}
 }
 
-impl DayCount for Actual360 {
-    const DENOMINATOR: u32 = 360;
+pub fn actual_365() -> Actual365
+    ensures { ⟦<Actual365 as DayCount>⟧.per ≡ 365 }
+{
+    Actual {}
+}
+
+impl<const YEAR: u32> DayCount for Actual<YEAR> {
+    const DENOMINATOR: u32 = YEAR;
+
+    ghost DENOMINATOR = { YEAR };
 
     ghost counted = { λ _. actual };
 
-    ghost per = { 360 };
+    ghost per = { YEAR };
 
-    ghost lawful = { λ basis. actual_360_lawful };
+    ghost lawful = { λ basis. actual_lawful YEAR basis.long basis.short };
 
     fn per_year(&self) -> u32 {
         Self::DENOMINATOR
     }
 
     fn count(&self, a: u32, b: u32) -> u32 {
-        days_passed(a, b)
-    }
-}
-
-impl DayCount for Actual365 {
-    const DENOMINATOR: u32 = 365;
-
-    ghost counted = { λ _. actual };
-
-    ghost per = { 365 };
-
-    ghost lawful = { λ basis. actual_365_lawful };
-
-    fn per_year(&self) -> u32 {
-        Self::DENOMINATOR
-    }
-
-    fn count(&self, a: u32, b: u32) -> u32 {
-        days_passed(a, b)
+        asked(|from, to| to - from, a, b)
     }
 }

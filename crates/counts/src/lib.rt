@@ -2,9 +2,10 @@
 #![tactic(auto)]
 
 mod actual;
+mod asked;
 mod count;
 mod thirty;
 
-pub use actual::{Actual360, Actual365};
+pub use actual::{Actual, Actual360, Actual365, actual_360, actual_365};
 pub use count::DayCount;
 pub use thirty::{BondBasis, European};

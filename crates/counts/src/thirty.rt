@@ -1,13 +1,14 @@
 // 30/360 day counts: years of twelve months of thirty days.
 ghost use Rattle.std.specs.Prelude.{◌≡◌, ◌≤◌};
 ghost use Rattle.counts.specs.Bases.{place, cut, bond_day, first_place, bond, european};
-ghost use Rattle.days.specs.Calendar.{year_of, month_of, day_of};
-ghost use Rattle.counts.specs.Counting.{asked};
+ghost use Rattle.days.specs.Calendar.{year_of, month_of, day_of, date};
+ghost use Rattle.counts.specs.Counting.{asked as asked_of};
 ghost use Rattle.counts.specs.Formulas.{BondByFormula, EuropeanByFormula};
 ghost use Rattle.counts.specs.Places.{bond_lawful, european_lawful};
 
+use crate::asked::asked;
 use crate::count::DayCount;
-use days::{LAST_DAY, date_of};
+use days::Date;
 
 // 30/360, bond basis: a second 31st is a 30th only after a first day above 29.
 #[derive(Clone, Copy)]
@@ -36,23 +37,19 @@ fn bond_second_day(first: u32, second: u32) -> u32
     }
 }
 
-fn place_of(year: u32, month: u32, day: u32) -> u32
-    requires { (year ≤ 2199) × (month ≤ 12) × (day ≤ 31) }
-    ensures { result ≡ place year month day }
+fn place_of(date: Date) -> u32
+    requires { (date.year ≤ 2199) × (date.month ≤ 12) × (date.day ≤ 31) }
+    ensures { result ≡ place date.year date.month date.day }
 {
-    360 * year + 30 * month + day
+    360 * date.year + 30 * date.month + date.day
 }
 
-// Year, month and day of a day of the range.
-fn parts_of(day: u32) -> (u32, u32, u32)
+fn date_within(day: u32) -> Date
     requires { day ≤ 109572 }
-    ensures parts { (result.0 ≡ year_of day) × (result.1 ≡ month_of day) × (result.2 ≡ day_of day) }
-    ensures bounds { (result.0 ≤ 2199) × (result.1 ≤ 12) × (result.2 ≤ 31) }
+    ensures value { result ≡ date (year_of day) (month_of day) (day_of day) }
+    ensures bounds { (result.year ≤ 2199) × (result.month ≤ 12) × (result.day ≤ 31) }
 {
-    match date_of(day) {
-        Some(date) => date,
-        None => unreachable(),
-    }
+    Date::of(day).unwrap()
 }
 
 // The place of a first date, or of a European second date.
@@ -60,17 +57,21 @@ fn place_cut(day: u32) -> u32
     requires { day ≤ 109572 }
     ensures { result ≡ first_place day }
 {
-    let (year, month, day_of_month) = parts_of(day);
-    place_of(year, month, cut_to_thirty(day_of_month))
+    let date = date_within(day);
+    place_of(Date {
+        day: cut_to_thirty(date.day),
+        ..date
+    })
 }
 
 fn bond_within(a: u32, b: u32) -> u32
     requires { (a ≤ b) × (b ≤ 109572) }
     ensures { result ≡ bond a b }
 {
-    let (_, _, first) = parts_of(a);
-    let (year, month, second) = parts_of(b);
-    place_of(year, month, bond_second_day(first, second)) - place_cut(a)
+    let first = date_within(a);
+    let second = date_within(b);
+    let day = bond_second_day(first.day, second.day);
+    place_of(Date { day, ..second }) - place_cut(a)
 }
 
 fn european_within(a: u32, b: u32) -> u32
@@ -80,18 +81,10 @@ fn european_within(a: u32, b: u32) -> u32
     place_cut(b) - place_cut(a)
 }
 
-fn bond_days(a: u32, b: u32) -> u32
-    ensures { result ≡ asked bond a b }
-{
-    if a <= b && b <= LAST_DAY {
-        bond_within(a, b)
-    } else {
-        0
-    }
-}
-
 impl DayCount for BondBasis {
     const DENOMINATOR: u32 = DAYS_A_YEAR;
+
+    ghost DENOMINATOR = { 360 };
 
     ghost counted = { λ _. bond };
 
@@ -104,25 +97,17 @@ impl DayCount for BondBasis {
     }
 
     fn count(&self, a: u32, b: u32) -> u32
-        ensures value { result ≡ asked bond a b }
+        ensures value { result ≡ asked_of bond a b }
         ensures formula { BondByFormula }
     {
-        bond_days(a, b)
-    }
-}
-
-fn european_days(a: u32, b: u32) -> u32
-    ensures { result ≡ asked european a b }
-{
-    if a <= b && b <= LAST_DAY {
-        european_within(a, b)
-    } else {
-        0
+        asked(bond_within, a, b)
     }
 }
 
 impl DayCount for European {
     const DENOMINATOR: u32 = DAYS_A_YEAR;
+
+    ghost DENOMINATOR = { 360 };
 
     ghost counted = { λ _. european };
 
@@ -135,9 +120,9 @@ impl DayCount for European {
     }
 
     fn count(&self, a: u32, b: u32) -> u32
-        ensures value { result ≡ asked european a b }
+        ensures value { result ≡ asked_of european a b }
         ensures formula { EuropeanByFormula }
     {
-        european_days(a, b)
+        asked(european_within, a, b)
     }
 }
