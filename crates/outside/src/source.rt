@@ -1,5 +1,5 @@
 // The files, and how a line of each is held to the library.
-ghost use Rattle.std.specs.Prelude.{◌≡◌, false, Decides, MatchOption, is_ok};
+ghost use Rattle.std.specs.Prelude.{◌≡◌, ◌↔◌, false, MatchOption, IsOk, is_ok};
 ghost use Rattle.std.specs.Option.{ForSome};
 ghost use Rattle.outside.specs.Sources.{Right};
 
@@ -34,7 +34,7 @@ impl Source {
     }
 
     pub fn judge(self, line: &str) -> Result<(), Difference>
-        ensures { Decides (is_ok result) (Right self line.now) }
+        ensures { IsOk result ↔ Right self line.now }
     {
         match self {
             Source::Easter => judge_figure(read_date(line), is_easter, Difference::OtherEaster),
