@@ -1,4 +1,5 @@
 pub mod Dates
+pub mod Judged
 pub mod Outcomes
 pub mod Schedule
 pub mod Laws

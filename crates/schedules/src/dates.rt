@@ -5,37 +5,44 @@ ghost use Rattle.schedules.specs.Dates.{Sound, most_dates, counted, steps, is_in
 use crate::deal::{Deal, Stub};
 use crate::months::{month_and_day, on_day};
 
+// A deal whose term and months are good, so that its dates can be counted.
+#[derive(Clone, Copy)]
+pub(crate) struct SoundDeal {
+    pub(crate) deal: Deal,
+    ghost sound: { Sound deal },
+}
+
 impl Deal {
     fn encloses(&self, date: u32) -> bool
         ensures { result ≡ is_inside self.now date }
     {
         self.start < date && date < self.end
     }
+}
 
+impl SoundDeal {
     // How often the months go into those of the term.
     fn steps(&self) -> u32
-        requires { Sound self.now }
-        ensures { result ≡ steps self.now }
+        ensures { result ≡ steps self.now.deal }
     {
-        let (first, _) = month_and_day(self.start);
-        let (last, _) = month_and_day(self.end);
-        (last - first) / self.months as u32
+        let (first, _) = month_and_day(self.deal.start);
+        let (last, _) = month_and_day(self.deal.end);
+        (last - first) / self.deal.months as u32
     }
 
     // The date that is `times` the months from the end, or from the start.
     fn counted(&self, times: u32) -> u32
-        requires sound { Sound self.now }
-        requires within { times ≤ steps self.now }
-        ensures { result ≡ counted self.now times }
+        requires { times ≤ steps self.now.deal }
+        ensures { result ≡ counted self.now.deal times }
     {
-        let distance = times * self.months as u32;
-        match self.stub {
+        let distance = times * self.deal.months as u32;
+        match self.deal.stub {
             Stub::ShortFirst => {
-                let (month, day) = month_and_day(self.end);
+                let (month, day) = month_and_day(self.deal.end);
                 on_day(month - distance, day)
             }
             Stub::ShortLast => {
-                let (month, day) = month_and_day(self.start);
+                let (month, day) = month_and_day(self.deal.start);
                 on_day(month + distance, day)
             }
         }
@@ -43,11 +50,10 @@ impl Deal {
 
     // How many counted dates lie strictly between start and end: all steps, or all but the last.
     pub(crate) fn inside(&self) -> u32
-        requires { Sound self.now }
-        ensures { result ≡ length (inner self.now) }
+        ensures { result ≡ length (inner self.now.deal) }
     {
         let steps = self.steps();
-        if steps > 0 && !self.encloses(self.counted(steps)) {
+        if steps > 0 && !self.deal.encloses(self.counted(steps)) {
             steps - 1
         } else {
             steps
@@ -56,8 +62,7 @@ impl Deal {
 
     // How many dates there are, with the start and the end.
     pub(crate) fn count(&self) -> usize
-        requires { Sound self.now }
-        ensures value { result ≡ length (dates self.now) }
+        ensures value { result ≡ length (dates self.now.deal) }
         ensures few { result ≤ most_dates }
     {
         self.inside() as usize + 2
@@ -65,18 +70,17 @@ impl Deal {
 
     // The date at an index, of a deal with so many dates inside.
     pub(crate) fn date_at(&self, inside: u32, index: u32) -> u32
-        requires sound { Sound self.now }
-        requires inside { inside ≡ length (inner self.now) }
+        requires inside { inside ≡ length (inner self.now.deal) }
         requires within { index ≤ inside + 1 }
-        ensures { result ≡ slice_index (dates self.now) index }
+        ensures { result ≡ slice_index (dates self.now.deal) index }
     {
         if index == 0 {
-            return self.start;
+            return self.deal.start;
         }
         if index > inside {
-            return self.end;
+            return self.deal.end;
         }
-        match self.stub {
+        match self.deal.stub {
             Stub::ShortFirst => self.counted(inside + 1 - index),
             Stub::ShortLast => self.counted(index),
         }

@@ -3,7 +3,7 @@ ghost use Rattle.std.specs.Prelude.{◌≡◌, ◌<◌, ◌≤◌};
 ghost use Rattle.days.specs.Calendar.{day_of};
 ghost use Rattle.schedules.specs.Dates.{month_number, on_day};
 
-use days::{FIRST_YEAR, date_of, day_number, days_in_month};
+use days::{Date, FIRST_YEAR, days_in_month};
 
 // The month that holds a day, and the day's place in it.
 pub(crate) fn month_and_day(day: u32) -> (u32, u32)
@@ -13,8 +13,8 @@ pub(crate) fn month_and_day(day: u32) -> (u32, u32)
     ensures low { 1 ≤ result.1 }
     ensures high { result.0 < 3600 }
 {
-    let (year, month, day_of_month) = date_of(day).unwrap();
-    (12 * (year - FIRST_YEAR) + (month - 1), day_of_month)
+    let date = Date::of(day).unwrap();
+    (12 * (date.year - FIRST_YEAR) + (date.month - 1), date.day)
 }
 
 // A day of a month, or the month's last day where it is shorter.
@@ -26,5 +26,7 @@ pub(crate) fn on_day(month: u32, day: u32) -> u32
     let year = FIRST_YEAR + month / 12;
     let month_of_year = 1 + month % 12;
     let length = days_in_month(year, month_of_year).unwrap();
-    day_number(year, month_of_year, day.min(length)).unwrap()
+    Date::new(year, month_of_year, day.min(length))
+        .number()
+        .unwrap()
 }

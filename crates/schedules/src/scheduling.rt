@@ -1,11 +1,12 @@
 // The call that makes a schedule: it judges the deal, rolls its dates and writes the days into the caller's table.
 ghost use Rattle.std.specs.Prelude.{◌≡◌, ◌≤◌, length, MatchOption};
 ghost use Rattle.calendar.specs.Rolling.{rolled};
-ghost use Rattle.schedules.specs.Dates.{Sound, most_dates, dates};
+ghost use Rattle.schedules.specs.Dates.{most_dates, dates};
 ghost use Rattle.schedules.specs.Outcomes.{RollsAllOrRefused, AllApart, ClashAt};
 ghost use Rattle.schedules.specs.Laws.{ScheduleLaw};
 ghost use Rattle.schedules.specs.Schedule.{rolled_dates, Answers, ByRule};
 
+use crate::dates::SoundDeal;
 use crate::deal::Deal;
 use calendar::ClosedDays;
 use days::Refusal;
@@ -14,16 +15,15 @@ use days::Refusal;
 const MOST_DATES: usize = 481;
 
 // Rolls each date of a deal into the slot with its index.
-fn roll_dates<S: ClosedDays>(deal: &Deal, set: &S, slots: &mut [u32]) -> Result<(), Refusal>
-    requires sound { Sound deal.now }
-    requires own { length slots.old ≡ length (dates deal.now) }
+fn roll_dates<S: ClosedDays>(it: &SoundDeal, set: &S, slots: &mut [u32]) -> Result<(), Refusal>
+    requires own { length slots.old ≡ length (dates it.now.deal) }
     requires few { length slots.old ≤ most_dates }
-    ensures { RollsAllOrRefused (rolled (S.ClosedDays.closed set.now) deal.now.convention) (dates deal.now) slots.new result }
+    ensures { RollsAllOrRefused (rolled (S.ClosedDays.closed set.now) it.now.deal.convention) (dates it.now.deal) slots.new result }
 {
-    let inside = deal.inside();
-    for index in 0..slots.len() {
-        let date = deal.date_at(inside, index as u32);
-        slots[index] = deal.convention.roll_date(set, date, index as u32)?;
+    let inside = it.inside();
+    for (index, slot) in slots.iter_mut().enumerate() {
+        let date = it.date_at(inside, index as u32);
+        *slot = it.deal.convention.roll_date(set, date, index as u32)?;
     }
     Ok(())
 }
@@ -32,28 +32,23 @@ fn roll_dates<S: ClosedDays>(deal: &Deal, set: &S, slots: &mut [u32]) -> Result<
 fn first_clash(rolled: &[u32]) -> Option<usize>
     ensures { MatchOption result (AllApart rolled.now) (ClashAt rolled.now) }
 {
-    for index in 1..rolled.len() {
-        if rolled[index - 1] == rolled[index] {
-            return Some(index);
-        }
-    }
-    None
+    let pair = rolled.windows(2).position(|pair| pair[0] == pair[1])?;
+    Some(pair + 1)
 }
 
 // Makes the schedule in slots of its own, and copies it into the table if nothing is wrong.
 fn lay_out<S: ClosedDays>(
-    deal: &Deal,
+    it: &SoundDeal,
     set: &S,
     slots: &mut [u32],
     table: &mut [u32],
 ) -> Result<usize, Refusal>
-    requires sound { Sound deal.now }
-    requires own { length slots.old ≡ length (dates deal.now) }
+    requires own { length slots.old ≡ length (dates it.now.deal) }
     requires few { length slots.old ≤ most_dates }
     requires room { length slots.old ≤ length table.old }
-    ensures { Answers (rolled_dates (S.ClosedDays.closed set.now) deal.now) table.old result table.new }
+    ensures { Answers (rolled_dates (S.ClosedDays.closed set.now) it.now.deal) table.old result table.new }
 {
-    roll_dates(deal, set, slots)?;
+    roll_dates(it, set, slots)?;
     if let Some(index) = first_clash(slots) {
         return Err(Refusal::NeighboursOnOneDay(index as u32));
     }
@@ -66,18 +61,13 @@ fn lay_out<S: ClosedDays>(
 fn make<S: ClosedDays>(deal: &Deal, set: &S, table: &mut [u32]) -> Result<usize, Refusal>
     ensures { ByRule (S.ClosedDays.closed set.now) deal.now table.old result table.new }
 {
-    if !deal.has_good_term() {
-        return Err(Refusal::BadTerm);
-    }
-    if !deal.has_good_months() {
-        return Err(Refusal::BadMonths);
-    }
-    let count = deal.count();
+    let it = deal.judged()?;
+    let count = it.count();
     if table.len() < count {
         return Err(Refusal::TableTooShort);
     }
     let mut slots = [0; MOST_DATES];
-    lay_out(deal, set, &mut slots[0..count], table)
+    lay_out(&it, set, &mut slots[0..count], table)
 }
 
 // Writes the schedule of a deal into the table, rising, and answers how many dates it has. Entries beyond them stay.

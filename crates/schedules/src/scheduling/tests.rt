@@ -2,7 +2,7 @@
 use super::schedule;
 use crate::deal::{Deal, Stub};
 use calendar::{Convention, DatedList, weekends_and_easter};
-use days::{Refusal, day_number};
+use days::{Date, Refusal};
 
 // 1 June to 3 September 2024, by three months.
 fn summer(convention: Convention) -> Deal {
@@ -27,8 +27,8 @@ const CLOSED: [u32; 34] = [
 fn neighbours_on_one_day(rt: HostRuntime) {
     let weekends = weekends_and_easter();
     let mut table = [7; 4];
-    assert_eq!(rt; day_number(2024, 6, 1), Some(45_442));
-    assert_eq!(rt; day_number(2024, 9, 3), Some(45_536));
+    assert_eq!(rt; Date::new(2024, 6, 1).number(), Some(45_442));
+    assert_eq!(rt; Date::new(2024, 9, 3).number(), Some(45_536));
     assert_eq!(rt;
         schedule(&summer(Convention::Following), &weekends, &mut table),
         Err(Refusal::NeighboursOnOneDay(1))

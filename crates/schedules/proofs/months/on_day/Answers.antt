@@ -12,7 +12,7 @@ returns c =
     (found c.days_in_month.result c.unwrap-length.result _ _ c.unwrap-length.ensures c.days_in_month.ensures).1
     in
     let number =
-    (found c.day_number.result c.unwrap.result _ _ c.unwrap.ensures c.day_number.ensures.value).1
+    (found c.number.result c.unwrap.result _ _ c.unwrap.ensures (rw c.new.ensures at c.number.ensures.value)).1
     in
     let cut = c.min.ensures in
     rw (← length, ← cut) number

@@ -7,5 +7,5 @@ returns g c =
       rule = c.make.ensures;
       law =
           law (g.S.ClosedDays.closed c.args.set.now) c.args.deal.now c.args.table.now _
-          (g.S.ClosedDays.lawful c.args.set.now) _ c.make.ensures;
+          (g.met.S.ClosedDays.lawful c.args.set.now) _ c.make.ensures;
     }
