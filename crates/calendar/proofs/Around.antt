@@ -5,7 +5,7 @@ use Rattle.std.proofs.ByRecursion.{All-get_or, Decides-by_and}
 use Rattle.std.proofs.lemmas.List.{get_or_default}
 use Rattle.std.proofs.lemmas.Int.{ints}
 use Rattle.std.proofs.lemmas.Bool.{leb-true, ltb-true, and_parts, or_right}
-use Rattle.days.specs.Calendar.{last_day, year_of, month_of, day_of, date, date_of, year_span, first_year, last_year}
+use Rattle.days.specs.Calendar.{last_day, year_of, month_of, day_of, date, dated, year_span, first_year, last_year}
 use Rattle.days.specs.Easter.{easter_of, easter_number}
 use Rattle.days.specs.Spans.{start_of}
 use Rattle.days.specs.declared.dates.Date.{Date}
@@ -19,7 +19,7 @@ use Rattle.calendar.specs.Kinds.{offset_listed, easter_closes, within_sixty, all
 use Rattle.calendar.proofs.Members.{offset_decides, within_range}
 
 -- what a date says of its day, and an Easter of its year
-date_tells : (n y m d : ℕ) → Some (date y m d) ≡ date_of n → (n ≤ last_day) × (y ≡ year_of n)
+date_tells : (n y m d : ℕ) → Some (date y m d) ≡ dated n → (n ≤ last_day) × (y ≡ year_of n)
 date_tells n y m d e =
     let p = some_tells (leb n last_day) (date y m d) (date (year_of n) (month_of n) (day_of n)) e in
     (leb-true _ _ p.0, ap (λ (d : Date). d.year) p.1)
@@ -49,7 +49,7 @@ difference : (n e : ℕ) → n ≤ last_day → e ≤ last_day → to_z w32 (of_
 difference n e h k = omega (arith, ints)
 
 pub easter_answer :
-    (offsets : List ℤ) (n y m d e : ℕ) (r : Bool) → Some (date y m d) ≡ date_of n → Some e ≡ easter_number y →
+    (offsets : List ℤ) (n y m d e : ℕ) (r : Bool) → Some (date y m d) ≡ dated n → Some e ≡ easter_number y →
     r ≡ offset_listed offsets (to_z w32 (of_z w32 (to_z w32 n -ℤ to_z w32 e))) → r ≡ easter_closes offsets n
 easter_answer offsets n y m d e r dated sunday is =
     let date = date_tells n y m d dated in

@@ -3,8 +3,8 @@ ghost use Rattle.std.specs.Prelude.{◌≡◌, ◌≤◌};
 ghost use Rattle.counts.specs.Actual.{actual_lawful};
 ghost use Rattle.counts.specs.Bases.{actual};
 
-use crate::asked::asked;
 use crate::count::DayCount;
+use crate::ranged::ranged;
 
 // The days that pass, over a year of so many days. A shorter year could not take the longest stretch of a period.
 #[derive(Clone, Copy)]
@@ -47,6 +47,6 @@ impl<const YEAR: u32> DayCount for Actual<YEAR> {
     }
 
     fn count(&self, a: u32, b: u32) -> u32 {
-        asked(|from, to| to - from, a, b)
+        ranged(|from, to| to - from, a, b)
     }
 }

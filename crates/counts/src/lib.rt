@@ -2,8 +2,8 @@
 #![tactic(auto)]
 
 mod actual;
-mod asked;
 mod count;
+mod ranged;
 mod thirty;
 
 pub use actual::{Actual, Actual360, Actual365, actual_360, actual_365};

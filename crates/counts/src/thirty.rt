@@ -2,12 +2,12 @@
 ghost use Rattle.std.specs.Prelude.{◌≡◌, ◌≤◌};
 ghost use Rattle.counts.specs.Bases.{place, cut, bond_day, first_place, bond, european};
 ghost use Rattle.days.specs.Calendar.{year_of, month_of, day_of, date};
-ghost use Rattle.counts.specs.Counting.{asked as asked_of};
+ghost use Rattle.counts.specs.Counting.{asked};
 ghost use Rattle.counts.specs.Formulas.{BondByFormula, EuropeanByFormula};
 ghost use Rattle.counts.specs.Places.{bond_lawful, european_lawful};
 
-use crate::asked::asked;
 use crate::count::DayCount;
+use crate::ranged::ranged;
 use days::Date;
 
 // 30/360, bond basis: a second 31st is a 30th only after a first day above 29.
@@ -97,10 +97,10 @@ impl DayCount for BondBasis {
     }
 
     fn count(&self, a: u32, b: u32) -> u32
-        ensures value { result ≡ asked_of bond a b }
+        ensures value { result ≡ asked bond a b }
         ensures formula { BondByFormula }
     {
-        asked(bond_within, a, b)
+        ranged(bond_within, a, b)
     }
 }
 
@@ -120,9 +120,9 @@ impl DayCount for European {
     }
 
     fn count(&self, a: u32, b: u32) -> u32
-        ensures value { result ≡ asked_of european a b }
+        ensures value { result ≡ asked european a b }
         ensures formula { EuropeanByFormula }
     {
-        asked(european_within, a, b)
+        ranged(european_within, a, b)
     }
 }

@@ -15,3 +15,8 @@ pub some_tells :
     {A : Type 0} (test : Bool) (x y : A) → Some x ≡ cond test (Some y) None → (test ≡ true) × (x ≡ y)
 some_tells true x y e = (refl, (cc))
 some_tells {A} false x y e = absurd (let z : ◌≡◌ {A = ℕ} 0 1 = cc in omega arith)
+
+-- and an answer that it does not let through
+pub none_tells : {A : Type 0} (test : Bool) (y : A) → None ≡ cond test (Some y) None → test ≡ false
+none_tells {A} true y e = absurd (let z : ◌≡◌ {A = ℕ} 0 1 = cc in omega arith)
+none_tells false y e = refl

@@ -3,7 +3,7 @@
 use Rattle.std.proofs.Common.{◌≡◌, ℕ, suc, ◌+◌, ◌-◌, ◌<◌, ◌≤◌, Bool, Some, None, refl, ap, ◌∙◌, arith}
 use Rattle.days.specs.Spans.{start_of, span_of}
 use Rattle.days.specs.Within.{Within}
-use Rattle.days.specs.Calendar.{leap, year_span, month_span, month_length, IsDate, number_of, year_of, day_in_year, month_of, day_of, last_day, date, date_of}
+use Rattle.days.specs.Calendar.{leap, year_span, month_span, month_length, IsDate, number_of, year_of, day_in_year, month_of, day_of, last_day, date_of}
 use Rattle.std.proofs.lemmas.Bool.{le-leb, lt-leb}
 use Rattle.days.specs.Laws.{Lossless, DaysFollow}
 use Rattle.days.proofs.Spans.{start_suc, start_mono, span_holds, span_is}
@@ -173,7 +173,7 @@ pub date_found :
     (k < 300) × Within year_span n k → before_year ≡ start_of year_span k →
     (i < 12) × Within (month_span leaps) (n - before_year) i → before_month ≡ start_of (month_span leaps) i →
     y ≡ 1900 + k → m ≡ i + 1 → d ≡ n - before_year - before_month + 1 →
-    Some (date y m d) ≡ date_of n
+    Some (y, m, d) ≡ date_of n
 date_found n k i leaps before_year before_month y m d in_range is-leap in_year is-year in_month is-month ey em ed =
     let p = settled n k i in_year.0 in_month.0 in_year.1 (rw (is-leap, is-year) at in_month.1) in
     let before : before_month ≡ start_of (month_span (leap (1900 + k))) i = rw is-leap at is-month in

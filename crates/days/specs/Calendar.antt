@@ -62,12 +62,15 @@ month_of n = 1 + span_of (month_span (leap (year_of n))) 12 (day_in_year n)
 unfoldable pub day_of : ℕ → ℕ
 day_of n = 1 + (day_in_year n - start_of (month_span (leap (year_of n))) (month_of n - 1))
 
+-- the date of a day number, absent above the range
+abbrev pub date_of : ℕ → Option (ℕ × ℕ × ℕ)
+date_of n = cond (nat_le n last_day) (Some (year_of n, month_of n, day_of n)) None
+
 abbrev pub date : ℕ → ℕ → ℕ → Date
 date y m d = record { year = y; month = m; day = d }
 
--- the date of a day number, absent above the range
-abbrev pub date_of : ℕ → Option Date
-date_of n = cond (nat_le n last_day) (Some (date (year_of n) (month_of n) (day_of n))) None
+abbrev pub dated : ℕ → Option Date
+dated n = cond (nat_le n last_day) (Some (date (year_of n) (month_of n) (day_of n))) None
 
 -- the last day of the month that holds day n
 abbrev pub month_end : ℕ → ℕ

@@ -2,7 +2,7 @@
 // Years and months are counted by an index from 0 inside; index 0 is 1900, or January.
 ghost use Rattle.std.specs.Prelude.{◌≡◌, ◌+◌, ◌-◌, ◌<◌, ◌≤◌, if◌then◌else◌, MatchOption};
 ghost use Rattle.days.specs.Spans.{start_of};
-ghost use Rattle.days.specs.Calendar.{leap, year_span, month_span, month_length, IsMonth, IsDate, number_of, date, date_of, month_end_of, last_day};
+ghost use Rattle.days.specs.Calendar.{leap, year_span, month_span, month_length, IsMonth, IsDate, number_of, date, date_of, dated, month_end_of, last_day};
 ghost use Rattle.days.specs.Laws.{Lossless, DaysFollow};
 ghost use Rattle.days.specs.Within.{Within};
 
@@ -70,6 +70,26 @@ fn month_index(leaps: bool, day: u32) -> u32
     }
 }
 
+// Year, month and day of a day number; absent above the range.
+pub fn date_of(day: u32) -> Option<(u32, u32, u32)>
+    ensures value { result ≡ date_of day }
+    ensures lossless { Lossless }
+{
+    if day > LAST_DAY {
+        return None;
+    }
+    let index = year_index(day);
+    let year = FIRST_YEAR + index;
+    let leaps = is_leap(year);
+    let in_year = day - days_before_year(index);
+    let month = month_index(leaps, in_year);
+    Some((
+        year,
+        month + 1,
+        in_year - days_before_month(leaps, month) + 1,
+    ))
+}
+
 // How many days a month has; absent for what is no month of the range.
 pub fn days_in_month(year: u32, month: u32) -> Option<u32>
     ensures { MatchOption result (IsMonth year month → ⊥) (λ n. IsMonth year month × (n ≡ month_length year month)) }
@@ -99,22 +119,11 @@ impl Date {
 
     // The date of a day number; absent above the range.
     pub fn of(day: u32) -> Option<Date>
-        ensures value { result ≡ date_of day }
+        ensures value { result ≡ dated day }
         ensures lossless { Lossless }
     {
-        if day > LAST_DAY {
-            return None;
-        }
-        let index = year_index(day);
-        let year = FIRST_YEAR + index;
-        let leaps = is_leap(year);
-        let in_year = day - days_before_year(index);
-        let month = month_index(leaps, in_year);
-        Some(Date {
-            year,
-            month: month + 1,
-            day: in_year - days_before_month(leaps, month) + 1,
-        })
+        let (year, month, day_of_month) = date_of(day)?;
+        Some(Date::new(year, month, day_of_month))
     }
 
     // The number of a date; absent for what is no date of the range.

@@ -8,7 +8,7 @@ mod refusal;
 mod week;
 
 pub use computus::easter;
-pub use dates::{Date, FIRST_YEAR, LAST_DAY, LAST_YEAR, days_in_month, month_end};
+pub use dates::{Date, FIRST_YEAR, LAST_DAY, LAST_YEAR, date_of, days_in_month, month_end};
 pub use display::DateOrNone;
 pub use refusal::{Layer, Refusal};
 pub use week::Weekday;

@@ -4,10 +4,11 @@ use std::test::Fail;
 
 #[test]
 fn days_and_dates(rt: HostRuntime) {
+    assert_eq!(rt; date_of(0), Some((1900, 1, 1)));
     assert_eq!(rt; Date::of(0), Some(Date::new(1900, 1, 1)));
-    assert_eq!(rt; Date::of(36_524), Some(Date::new(2000, 1, 1)));
-    assert_eq!(rt; Date::of(109_572), Some(Date::new(2199, 12, 31)));
-    assert_eq!(rt; Date::of(109_573), None);
+    assert_eq!(rt; date_of(36_524), Some((2000, 1, 1)));
+    assert_eq!(rt; date_of(109_572), Some((2199, 12, 31)));
+    assert_eq!(rt; date_of(109_573), None);
     assert_eq!(rt; Date::new(2000, 2, 29).number(), Some(36_583));
     assert_eq!(rt;
         Date::new(1900, 2, 29).number(),

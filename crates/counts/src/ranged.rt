@@ -1,10 +1,10 @@
-// Where a day count is asked, and where it answers 0.
+// Where a day count counts, and where it answers 0.
 ghost use Rattle.std.specs.Prelude.{◌≡◌, ◌<◌, ◌≤◌, ◌⊎◌};
 
 use days::LAST_DAY;
 
 // The count of days in order within the range, and 0 for any other pair.
-pub(crate) fn asked<F: FnOnce(u32, u32) -> u32>(count: F, a: u32, b: u32) -> u32
+pub(crate) fn ranged<F: FnOnce(u32, u32) -> u32>(count: F, a: u32, b: u32) -> u32
     requires { a ≤ b → b ≤ 109572 → F.pre count a b }
     ensures within { a ≤ b → b ≤ 109572 → F.post count a b result }
     ensures outside { (b < a) ⊎ (109572 < b) → result ≡ 0 }
