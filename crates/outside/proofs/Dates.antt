@@ -2,7 +2,7 @@
 -- Assumes nothing.
 use Rattle.std.proofs.Common.{◌≡◌, ℕ, ◌≤◌, ◌&&◌, leb, Some, None, Option, MatchOption, sym, refl, subst, leb-true}
 use Rattle.std.proofs.lemmas.Bool.{and_parts, le-leb}
-use Rattle.days.specs.Calendar.{IsDate, number_of, year_of, month_of, day_of, date, date_of, last_day}
+use Rattle.days.specs.Calendar.{IsDate, number_of, year_of, month_of, day_of, date, dated, last_day}
 use Rattle.days.specs.Easter.{easter_of, easter_month, easter_day, easter_number}
 use Rattle.days.specs.Laws.{EasterIsSunday}
 use Rattle.days.proofs.Checks.{some_tells}
@@ -44,7 +44,7 @@ same_date y m d y' m' d' h h' e =
 
 -- the date of a number is the only one with that number
 pub date_exactly :
-    (n : ℕ) (r : Option Date) → r ≡ date_of n → Exactly r (λ date. Dated date × (day_number date ≡ n))
+    (n : ℕ) (r : Option Date) → r ≡ dated n → Exactly r (λ date. Dated date × (day_number date ≡ n))
 date_exactly n None none = λ other right.
     let numbered = right.1 in
     let inside : n ≤ last_day = rw (← numbered) (lossless.each_date_has_a_number other.year other.month other.day right.0) in
@@ -74,8 +74,8 @@ number_from_easter :
 number_from_easter sunday y date (e, h) =
     let month = h.month in
     let day = h.day in
-    let dated : Dated date = rw (month, day) (sunday date.year h.inside.0 h.inside.1).0 in
-    (dated, rw (month, day, e) refl)
+    let in_range : Dated date = rw (month, day) (sunday date.year h.inside.0 h.inside.1).0 in
+    (in_range, rw (month, day, e) refl)
 
 -- the date that a number found is the Easter Sunday of the year
 pub easter_found :

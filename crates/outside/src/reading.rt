@@ -1,5 +1,5 @@
 // The lines of the files: numbers in decimals, with one space between two.
-// The forms are the files' own, so that they are read by functions, and no figure is parsed from text elsewhere.
+// Functions and not FromStr: the forms are the files' own, and Date is of crate days.
 ghost use Rattle.std.specs.Prelude.{◌≡◌, ℕ, List, IfSome, MatchOption};
 ghost use Rattle.outside.specs.Exactly.{Exactly};
 ghost use Rattle.outside.specs.Lines.{Spells, Leads, DateLine, DatedDayLine};
