@@ -9,6 +9,7 @@ fn date_of(day: Option<u32>) -> DateOrNone {
     DateOrNone(day.and_then(Date::of))
 }
 
+// The set and the year are two parameters here and below: a struct of them would name nothing that the sheet speaks of.
 fn print_closed_weekdays<S: ClosedDays>(rt: &HostRuntime, set: &S, year: u32) -> io::Result<()> {
     let (january_1, december_31) = (Date::new(year, 1, 1), Date::new(year, 12, 31));
     let (Some(first), Some(last)) = (january_1.number(), december_31.number()) else {

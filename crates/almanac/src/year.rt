@@ -28,6 +28,7 @@ fn four_digit_number(word: &[u8]) -> Option<u32>
 }
 
 // A year from 1900 to 2199, written with four digits.
+// A function and no TryFrom: a year is a plain number to all that take it, so a type for it would be taken apart at once.
 pub fn year_from(word: &[u8]) -> Result<u32, BadYear>
     ensures { YearRead word.now result }
 {

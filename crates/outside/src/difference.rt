@@ -67,6 +67,7 @@ impl fmt::Display for DateText {
     }
 }
 
+// The number of a day, or that there is none.
 #[derive(Clone, Copy)]
 struct NumberText(Option<u32>);
 

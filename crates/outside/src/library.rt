@@ -15,6 +15,7 @@ pub fn easter_date(year: u32) -> Option<Date>
     date_of(sunday)
 }
 
+// The answers of days, with the promise that no other figure would be right.
 pub fn date_of(day: u32) -> Option<Date>
     ensures { Exactly result (λ date. Dated date × (day_number date ≡ day)) }
 {
@@ -27,7 +28,7 @@ pub fn number_of(date: Date) -> Option<u32>
     date.number()
 }
 
-// 0 for Monday to 6 for Sunday, as the files have it.
+// 0 for Monday to 6 for Sunday. A number, since it is held to that of a file, which may be no weekday's.
 pub fn weekday_of(day: u32) -> u32
     ensures { result ≡ weekday_of day }
 {

@@ -7,6 +7,7 @@ ghost use Rattle.outside.specs.Lines.{Spells, Leads, DateLine, DatedDayLine};
 use crate::figures::DatedDay;
 use days::Date;
 
+// What `parse` answers, promised in the words of the lines.
 fn whole_number(word: &str) -> Option<u32>
     ensures { Exactly result (λ n. Spells word.now n) }
 {
