@@ -9,6 +9,7 @@ use print::print_year;
 use std::{env, io};
 use year::{BadYear, year_from};
 
+// What is wrong with a word is said here, where the word is at hand: the error has none, since it is copied.
 fn answer(rt: &HostRuntime, word: &str) -> io::Result<()> {
     match year_from(word.as_bytes()) {
         Ok(year) => print_year(rt, year),

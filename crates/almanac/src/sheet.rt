@@ -4,7 +4,7 @@ ghost use Rattle.days.specs.Calendar.{IsMonth};
 ghost use Rattle.almanac.specs.Sheet.{closed_weekday, IsMonthEnd};
 
 use calendar::{ClosedDays, Convention};
-use days::{day_number, days_in_month};
+use days::{Date, Weekday, days_in_month};
 
 // The last day of a month, whether it is closed, and where the conventions take it.
 #[derive(Clone, Copy)]
@@ -21,7 +21,7 @@ pub fn month_end_of<S: ClosedDays>(set: &S, year: u32, month: u32) -> Option<Mon
     ensures { MatchOption result (IsMonth year month → ⊥) (IsMonthEnd (S.ClosedDays.closed set.now) year month) }
 {
     let length = days_in_month(year, month)?;
-    let day = day_number(year, month, length)?;
+    let day = Date::new(year, month, length).number()?;
     Some(MonthEnd {
         day,
         closed: set.is_closed(day),
@@ -35,5 +35,6 @@ pub fn month_end_of<S: ClosedDays>(set: &S, year: u32, month: u32) -> Option<Mon
 pub fn is_closed_weekday<S: ClosedDays>(set: &S, day: u32) -> bool
     ensures { result ≡ closed_weekday (S.ClosedDays.closed set.now) day }
 {
-    day % 7 < 5 && set.is_closed(day)
+    let is_weekend = matches!(Weekday::of(day), Weekday::Saturday | Weekday::Sunday);
+    !is_weekend && set.is_closed(day)
 }

@@ -1,6 +1,6 @@
 // The year that the program is asked for.
-ghost use Rattle.std.specs.Prelude.{◌≡◌, true, false};
-ghost use Rattle.almanac.specs.Year.{digit, digits, YearRead};
+ghost use Rattle.std.specs.Prelude.{◌-◌, IsTrue, SomeIff};
+ghost use Rattle.almanac.specs.Year.{digit, four_digits, year_value, YearRead};
 
 use days::{FIRST_YEAR, LAST_YEAR};
 
@@ -10,36 +10,32 @@ pub enum BadYear {
     OutOfRange(u32),
 }
 
-fn is_digit(byte: u8) -> bool
-    ensures { result ≡ digit byte }
+// What a digit says; none for any other byte.
+fn digit_of(byte: u8) -> Option<u32>
+    ensures { SomeIff result (IsTrue (digit byte)) (byte - 48) }
 {
-    48 <= byte && byte <= 57
+    char::from(byte).to_digit(10)
 }
 
-fn are_digits(a: u8, b: u8, c: u8, d: u8) -> bool
-    ensures { result ≡ digits a b c d }
+fn four_digit_number(word: &[u8]) -> Option<u32>
+    ensures { SomeIff result (IsTrue (four_digits word.now)) (year_value word.now) }
 {
-    let front = is_digit(a) && is_digit(b);
-    let back = is_digit(c) && is_digit(d);
-    front && back
+    let &[a, b, c, d] = word else {
+        return None;
+    };
+    let number = 1000 * digit_of(a)? + 100 * digit_of(b)? + 10 * digit_of(c)? + digit_of(d)?;
+    Some(number)
 }
 
 // A year from 1900 to 2199, written with four digits.
+// A function and no TryFrom: a year is a plain number to all that take it, so a type for it would be taken apart at once.
 pub fn year_from(word: &[u8]) -> Result<u32, BadYear>
     ensures { YearRead word.now result }
 {
-    let [a, b, c, d] = word else {
-        return Err(BadYear::NotFourDigits);
-    };
-    if !are_digits(*a, *b, *c, *d) {
-        return Err(BadYear::NotFourDigits);
+    let year = four_digit_number(word).ok_or(BadYear::NotFourDigits)?;
+    if (FIRST_YEAR..=LAST_YEAR).contains(&year) {
+        Ok(year)
+    } else {
+        Err(BadYear::OutOfRange(year))
     }
-    let year = 1000 * (*a - 48) as u32
-        + 100 * (*b - 48) as u32
-        + 10 * (*c - 48) as u32
-        + (*d - 48) as u32;
-    if year < FIRST_YEAR || year > LAST_YEAR {
-        return Err(BadYear::OutOfRange(year));
-    }
-    Ok(year)
 }

@@ -1,13 +1,13 @@
 -- A date is told by its number, and Easter by its year.
 -- Assumes nothing.
-use Rattle.std.proofs.Common.{◌≡◌, ℕ, ◌&&◌, leb, Some, None, Option, MatchOption, sym, refl, subst, leb-true}
-use Rattle.std.proofs.lemmas.Bool.{and_parts}
-use Rattle.days.specs.Calendar.{IsDate, number_of}
+use Rattle.std.proofs.Common.{◌≡◌, ℕ, ◌≤◌, ◌&&◌, leb, Some, None, Option, MatchOption, sym, refl, subst, leb-true}
+use Rattle.std.proofs.lemmas.Bool.{and_parts, le-leb}
+use Rattle.days.specs.Calendar.{IsDate, number_of, year_of, month_of, day_of, date, dated, last_day}
 use Rattle.days.specs.Easter.{easter_of, easter_month, easter_day, easter_number}
 use Rattle.days.specs.Laws.{EasterIsSunday}
 use Rattle.days.proofs.Checks.{some_tells}
 use Rattle.days.proofs.Round.{lossless}
-use Rattle.outside.specs.declared.figures.Date.{Date}
+use Rattle.days.specs.declared.dates.Date.{Date}
 use Rattle.outside.specs.declared.figures.DatedDay.{DatedDay}
 use Rattle.outside.specs.Exactly.{Exactly}
 use Rattle.outside.specs.Figures.{IsYear, Dated, day_number, IsEaster}
@@ -42,6 +42,24 @@ same_date y m d y' m' d' h h' e =
     let q = lossless.date_leads_back y' m' d' h' in
     ((let p = p.0 in let q = q.0 in cc), (let p = p.1 in let q = q.1 in cc), (let p = p.2 in let q = q.2 in cc))
 
+-- the date of a number is the only one with that number
+pub date_exactly :
+    (n : ℕ) (r : Option Date) → r ≡ dated n → Exactly r (λ date. Dated date × (day_number date ≡ n))
+date_exactly n None none = λ other right.
+    let numbered = right.1 in
+    let inside : n ≤ last_day = rw (← numbered) (lossless.each_date_has_a_number other.year other.month other.day right.0) in
+    let some = rw (le-leb n last_day inside) at none in
+    absurd (cc)
+date_exactly n (Some found) is =
+    let tells = some_tells (leb n last_day) found (date (year_of n) (month_of n) (day_of n)) is in
+    let inside : n ≤ last_day = leb-true n last_day tells.0 in (
+      rw tells.1 (lossless.each_number_has_a_date n inside, lossless.number_leads_back n inside),
+      λ other right.
+          let leads = rw right.1 at (lossless.date_leads_back other.year other.month other.day right.0) in
+          let same = date_is other (year_of n) (month_of n) (day_of n) (sym leads.0) (sym leads.1) (sym leads.2) in
+          cc,
+    )
+
 easter_from_number :
     EasterIsSunday → (y : ℕ) → IsYear y → (date : Date) → Dated date × (day_number date ≡ easter_of y) →
     (date.year ≡ y) × IsEaster date
@@ -56,8 +74,8 @@ number_from_easter :
 number_from_easter sunday y date (e, h) =
     let month = h.month in
     let day = h.day in
-    let dated : Dated date = rw (month, day) (sunday date.year h.inside.0 h.inside.1).0 in
-    (dated, rw (month, day, e) refl)
+    let in_range : Dated date = rw (month, day) (sunday date.year h.inside.0 h.inside.1).0 in
+    (in_range, rw (month, day, e) refl)
 
 -- the date that a number found is the Easter Sunday of the year
 pub easter_found :

@@ -1,19 +1,16 @@
 -- From what was found of a figure to what is decided of its line.
 -- Assumes nothing.
-use Rattle.std.proofs.Common.{◌≡◌, ℕ, Bool, true, false, not, is_some, Some, None, Decides, Option, refl, subst}
+use Rattle.std.proofs.Common.{◌≡◌, ℕ, Bool, true, false, not, is_some, Some, None, Decides, Option, MatchOption, refl, sym, ◌∙◌, subst}
 use Rattle.std.proofs.lemmas.Bool.{false≢true, true≢false}
 use Rattle.outside.specs.Exactly.{Exactly}
 
--- a line with no figure on it is not right
-pub unread : {T : Type 0} {P Q : T → Type 0} → ((x : T) → P x → ⊥) → Decides false ((x : T) × P x × Q x)
-unread never = (λ e. absurd (false≢true e), λ right. absurd (never right.0 right.1))
-
--- a line whose one figure is wrong is not right
-pub wrong :
-    {T : Type 0} {P Q : T → Type 0} (y : T) → ((x : T) → P x → x ≡ y) → Decides false (Q y) →
-    Decides false ((x : T) × P x × Q x)
-wrong {T} {P} {Q} y only no_more =
-    (λ e. absurd (false≢true e), λ right. no_more.1 (subst Q (only right.0 right.1) right.2))
+-- the line is right just where the one figure on it is
+pub judged :
+    {T : Type 0} {P Q : T → Type 0} (figure : Option T) (right : Bool) → Exactly figure P →
+    MatchOption figure (right ≡ false) (λ y. Decides right (Q y)) → Decides right ((x : T) × P x × Q x)
+judged None right unread wrong = (λ e. absurd (false≢true (sym wrong ∙ e)), λ found. absurd (unread found.0 found.1))
+judged {T} {P} {Q} (Some y) right (read, only) decided =
+    (λ e. (y, read, decided.0 e), λ found. decided.1 (subst Q (only found.0 found.1) found.2))
 
 pub none_decides :
     {P : Type 0} (n : ℕ) (r : Option ℕ) (b : Bool) → is_some r ≡ not b → Exactly r (λ k. P × (n ≡ k)) →

@@ -3,7 +3,7 @@
 use Rattle.std.specs.Prelude.{◌≡◌, ℕ, ◌≤◌}
 use Rattle.days.specs.Calendar.{first_year, last_year, IsDate, number_of, weekday_of}
 use Rattle.days.specs.Easter.{easter_month, easter_day}
-use Rattle.outside.specs.declared.figures.Date.{Date}
+use Rattle.days.specs.declared.dates.Date.{Date}
 use Rattle.outside.specs.declared.figures.DatedDay.{DatedDay}
 
 abbrev pub IsYear : ℕ → Type 0

@@ -2,7 +2,7 @@
 -- Assumes nothing.
 use Rattle.std.specs.Prelude.{◌≡◌, ℕ, ◌^◌, ◌<◌, List, ◌∷◌, ◌++◌}
 use Rattle.std.specs.Str.Parse.{IsNumeral, digits_value, without_leading_plus}
-use Rattle.outside.specs.declared.figures.Date.{Date}
+use Rattle.days.specs.declared.dates.Date.{Date}
 use Rattle.outside.specs.declared.figures.DatedDay.{DatedDay}
 
 -- the word is digits, after a plus sign or none, and n is what they say

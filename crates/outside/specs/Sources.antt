@@ -1,21 +1,12 @@
 -- When a line of a file is right.
 -- Assumes nothing.
-use Rattle.std.specs.Prelude.{ℕ, Bool, true, false, List}
-use Rattle.outside.specs.declared.figures.Date.{Date}
+use Rattle.std.specs.Prelude.{ℕ, List}
+use Rattle.days.specs.declared.dates.Date.{Date}
 use Rattle.outside.specs.declared.figures.DatedDay.{DatedDay}
-use Rattle.outside.specs.declared.finding.Finding.{Finding}
-use Rattle.outside.specs.declared.finding.Finding.TheVariants.{Agrees, Unreadable, OtherEaster, OtherDay, NotRefused}
 use Rattle.outside.specs.declared.source.Source.{Source}
 use Rattle.outside.specs.declared.source.Source.TheVariants.{Easter, Dates, NoDates}
 use Rattle.outside.specs.Lines.{DateLine, DatedDayLine}
 use Rattle.outside.specs.Figures.{Dated, IsEaster, IsDatedDay}
-
-abbrev pub agreed : Finding → Bool
-agreed Agrees = true
-agreed Unreadable = false
-agreed (OtherEaster date) = false
-agreed (OtherDay figure) = false
-agreed (NotRefused date) = false
 
 -- the line has a figure in the form of its file, and the figure is right
 abbrev pub Right : Source → List ℕ → Type 0

@@ -4,8 +4,8 @@ ghost use Rattle.days.specs.Calendar.{weekday_of};
 ghost use Rattle.outside.specs.Exactly.{Exactly};
 ghost use Rattle.outside.specs.Figures.{Dated, day_number, IsEaster, IsDatedDay};
 
-use crate::figures::{Date, DatedDay};
-use days::Weekday;
+use crate::figures::DatedDay;
+use days::{Date, Weekday};
 
 // The date of a year's Easter Sunday; none outside the library's years.
 pub fn easter_date(year: u32) -> Option<Date>
@@ -15,54 +15,39 @@ pub fn easter_date(year: u32) -> Option<Date>
     date_of(sunday)
 }
 
+// The answers of days, with the promise that no other figure would be right.
 pub fn date_of(day: u32) -> Option<Date>
     ensures { Exactly result (λ date. Dated date × (day_number date ≡ day)) }
 {
-    let (year, month, day) = days::date_of(day)?;
-    Some(Date { year, month, day })
+    Date::of(day)
 }
 
 pub fn number_of(date: Date) -> Option<u32>
     ensures { Exactly result (λ n. Dated date × (day_number date ≡ n)) }
 {
-    days::day_number(date.year, date.month, date.day)
+    date.number()
 }
 
-// 0 for Monday to 6 for Sunday, as the files have it.
+// 0 for Monday to 6 for Sunday. A number, since it is held to that of a file, which may be no weekday's.
 pub fn weekday_of(day: u32) -> u32
     ensures { result ≡ weekday_of day }
 {
-    match Weekday::of(day) {
-        Weekday::Monday => 0,
-        Weekday::Tuesday => 1,
-        Weekday::Wednesday => 2,
-        Weekday::Thursday => 3,
-        Weekday::Friday => 4,
-        Weekday::Saturday => 5,
-        Weekday::Sunday => 6,
-    }
+    Weekday::of(day).into()
 }
 
 pub fn is_easter(figure: Date) -> bool
     ensures { Decides result (IsEaster figure) }
 {
-    match easter_date(figure.year) {
-        Some(date) => date == figure,
-        None => false,
-    }
+    easter_date(figure.year) == Some(figure)
 }
 
 // Both ways: from the number to the date, and from the date to the number.
 pub fn is_dated_day(figure: DatedDay) -> bool
     ensures { Decides result (IsDatedDay figure) }
 {
-    let Some(date) = date_of(figure.number) else {
-        return false;
-    };
-    let Some(number) = number_of(figure.date) else {
-        return false;
-    };
-    date == figure.date && number == figure.number && weekday_of(figure.number) == figure.weekday
+    date_of(figure.number) == Some(figure.date)
+        && number_of(figure.date) == Some(figure.number)
+        && weekday_of(figure.number) == figure.weekday
 }
 
 pub fn is_no_date(figure: Date) -> bool

@@ -1,14 +1,14 @@
 // Compares the library with figures that other programs made, and prints where they differ.
 #![tactic(auto)]
 
+mod difference;
 mod figures;
-mod finding;
 mod library;
 mod reading;
 mod source;
 mod tally;
 
-use anyhow::anyhow;
+use anyhow::ensure;
 use source::Source;
 use std::fs;
 use tally::Tally;
@@ -20,13 +20,13 @@ fn check_file(rt: &HostRuntime, source: Source) -> anyhow::Result<Tally> {
     let name = source.file_name();
     let text = fs::read_to_string(rt, name)?;
     let mut tally = Tally::default();
-    for (index, line) in text.as_str().lines().enumerate() {
-        let finding = source.judge(line);
-        tally.count(finding.agrees());
-        if !finding.agrees() && tally.differences() <= MOST_SHOWN {
-            let number = index.wrapping_add(1);
-            let told = finding.explain(rt.alloc())?;
-            println!(rt; "{name} line {number}: {told}")?;
+    for line in text.as_str().lines() {
+        let judged = source.judge(line);
+        tally.count(judged.is_ok());
+        if let Err(difference) = judged
+            && tally.differences() <= MOST_SHOWN
+        {
+            println!(rt; "{name} line {}: {difference}", tally.lines)?;
         }
     }
     if tally.lines == 0 {
@@ -44,15 +44,10 @@ fn check_file(rt: &HostRuntime, source: Source) -> anyhow::Result<Tally> {
 fn check_all(rt: &HostRuntime) -> anyhow::Result<()> {
     let mut all_agree = true;
     for source in [Source::Easter, Source::Dates, Source::NoDates] {
-        if check_file(rt, source)?.differences() > 0 {
-            all_agree = false;
-        }
+        all_agree &= check_file(rt, source)?.differences() == 0;
     }
-    if all_agree {
-        Ok(())
-    } else {
-        Err(anyhow!("the library and the files differ"))
-    }
+    ensure!(all_agree, "the library and the files differ");
+    Ok(())
 }
 
 fn main(rt: HostRuntime) -> anyhow::Result<()> {

@@ -1,17 +1,17 @@
 // The lines of the files: numbers in decimals, with one space between two.
+// Functions and not FromStr: the forms are the files' own, and Date is of crate days.
 ghost use Rattle.std.specs.Prelude.{◌≡◌, ℕ, List, IfSome, MatchOption};
 ghost use Rattle.outside.specs.Exactly.{Exactly};
 ghost use Rattle.outside.specs.Lines.{Spells, Leads, DateLine, DatedDayLine};
 
-use crate::figures::{Date, DatedDay};
+use crate::figures::DatedDay;
+use days::Date;
 
+// What `parse` answers, promised in the words of the lines.
 fn whole_number(word: &str) -> Option<u32>
     ensures { Exactly result (λ n. Spells word.now n) }
 {
-    match word.parse::<u32>() {
-        Ok(number) => Some(number),
-        Err(_) => None,
-    }
+    word.parse().ok()
 }
 
 // The number before the first space, and what stands behind that space.

@@ -1,12 +1,13 @@
 // The files, and how a line of each is held to the library.
-ghost use Rattle.std.specs.Prelude.{◌≡◌, Decides};
-ghost use Rattle.outside.specs.Sources.{agreed, Right};
-ghost use Rattle.outside.specs.declared.source.Source.TheVariants.{Easter, Dates, NoDates};
+ghost use Rattle.std.specs.Prelude.{◌≡◌, ◌↔◌, false, MatchOption, IsOk, is_ok};
+ghost use Rattle.std.specs.Option.{ForSome};
+ghost use Rattle.outside.specs.Sources.{Right};
 
-use crate::finding::Finding;
+use crate::difference::Difference;
 use crate::library::{is_dated_day, is_easter, is_no_date};
 use crate::reading::{read_date, read_dated_day};
 
+// There are just these three files, and each method says by a match what differs between them.
 #[derive(Clone, Copy)]
 pub enum Source {
     Easter,
@@ -32,43 +33,31 @@ impl Source {
         }
     }
 
-    pub fn judge(self, line: &str) -> Finding
-        ensures { Decides (agreed result) (Right self line.now) }
+    pub fn judge(self, line: &str) -> Result<(), Difference>
+        ensures { IsOk result ↔ Right self line.now }
     {
         match self {
-            Source::Easter => judge_easter(line),
-            Source::Dates => judge_dated_day(line),
-            Source::NoDates => judge_no_date(line),
+            Source::Easter => judge_figure(read_date(line), is_easter, Difference::OtherEaster),
+            Source::Dates => judge_figure(read_dated_day(line), is_dated_day, Difference::OtherDay),
+            Source::NoDates => judge_figure(read_date(line), is_no_date, Difference::NotRefused),
         }
     }
 }
 
-fn judge_easter(line: &str) -> Finding
-    ensures { Decides (agreed result) (Right Easter line.now) }
+// Of the figure that stands on a line, or none where the line could not be read.
+fn judge_figure<T: Copy, R: FnOnce(T) -> bool, D: FnOnce(T) -> Difference>(
+    figure: Option<T>,
+    is_right: R,
+    otherwise: D,
+) -> Result<(), Difference>
+    requires right { ForSome figure (R.pre is_right) }
+    requires otherwise { ForSome figure (D.pre otherwise) }
+    ensures { MatchOption figure (is_ok result ≡ false) (λ x. R.post is_right x (is_ok result)) }
 {
-    match read_date(line) {
-        None => Finding::Unreadable,
-        Some(date) if is_easter(date) => Finding::Agrees,
-        Some(date) => Finding::OtherEaster(date),
-    }
-}
-
-fn judge_dated_day(line: &str) -> Finding
-    ensures { Decides (agreed result) (Right Dates line.now) }
-{
-    match read_dated_day(line) {
-        None => Finding::Unreadable,
-        Some(day) if is_dated_day(day) => Finding::Agrees,
-        Some(day) => Finding::OtherDay(day),
-    }
-}
-
-fn judge_no_date(line: &str) -> Finding
-    ensures { Decides (agreed result) (Right NoDates line.now) }
-{
-    match read_date(line) {
-        None => Finding::Unreadable,
-        Some(date) if is_no_date(date) => Finding::Agrees,
-        Some(date) => Finding::NotRefused(date),
+    let figure = figure.ok_or(Difference::Unreadable)?;
+    if is_right(figure) {
+        Ok(())
+    } else {
+        Err(otherwise(figure))
     }
 }

@@ -3,4 +3,4 @@ use Rattle.outside.proofs.Dates.{number_exactly}
 use Rattle.outside.proofs.library.number_of.Goals as goal
 
 pub returns : goal.returns
-returns c = number_exactly (Dated c.args.date) (day_number c.args.date) c.day_number.result c.day_number.ensures.value
+returns c = number_exactly (Dated c.args.date) (day_number c.args.date) c.number.result c.number.ensures.value

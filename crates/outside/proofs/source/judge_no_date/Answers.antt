@@ -1,8 +1,0 @@
-use Rattle.outside.proofs.Judged.{unread, wrong}
-use Rattle.outside.proofs.source.judge_no_date.Goals as goal
-
-pub returns-in-None : goal.returns-in-None
-returns-in-None c = unread c.in-None.ensures
-
-pub returns-in-Some-2 : goal.returns-in-Some-2
-returns-in-Some-2 c = wrong c.in-Some.date c.in-Some.ensures.1 c.if-is_no_date.ensures
