@@ -27,24 +27,20 @@ fn digits_value(radix: u32, digits: &[u8]) -> Option<u64>
     Some(value)
 }
 
-fn number_word(word: &[u8]) -> Option<u64>
-    ensures value { result ≡ number_said word.now }
-    ensures small { IfSome result (λ n. n < 10 ^ 11) }
-{
-    match word {
-        [] | [b'0', _, ..] => None,
-        _ if word.len() > MOST_DIGITS => None,
-        _ => digits_value(10, word),
-    }
-}
-
 impl Kind for Number {
     type Said = u64;
 
     ghost says = { said number };
 
-    fn said(word: &[u8]) -> Option<u64> {
-        number_word(word)
+    fn said(word: &[u8]) -> Option<u64>
+        ensures value { result ≡ number_said word.now }
+        ensures small { IfSome result (λ n. n < 10 ^ 11) }
+    {
+        match word {
+            [] | [b'0', _, ..] => None,
+            _ if word.len() > MOST_DIGITS => None,
+            _ => digits_value(10, word),
+        }
     }
 }
 
@@ -108,7 +104,7 @@ impl Kind for Offset {
 
     fn said(word: &[u8]) -> Option<i64> {
         let (sign, digits) = word.split_first()?;
-        signed(*sign, number_word(digits))
+        signed(*sign, Number::said(digits))
     }
 }
 

@@ -1,6 +1,6 @@
 use Rattle.std.proofs.Common.{length}
 use Rattle.text.proofs.Digits.{of_eleven}
-use Rattle.text.proofs.words.number_word.Goals as goal
+use Rattle.text.proofs.words.NumberKind.said.Goals as goal
 
 pub returns-in_default-2-clause-small : goal.returns-in_default-2-clause-small
 returns-in_default-2-clause-small c =
