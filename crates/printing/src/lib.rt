@@ -18,8 +18,7 @@ fn print_fault<W: Write>(fault: &Fault, page: &mut [u8], out: &mut W) -> anyhow:
     if let Refusal::NoSuchDeal = fault.refusal {
         return Ok(());
     }
-    let end =
-        fault_line(fault, page).map_err(|_| anyhow!("the page has no room for a line"))?;
+    let end = fault_line(fault, page).map_err(|_| anyhow!("the page has no room for a line"))?;
     Ok(out.write_all(&page[..end])?)
 }
 

@@ -1,18 +1,19 @@
 -- The report of the deal at a place among the lines.
 -- Assumes nothing.
-use Rattle.std.proofs.Common.{◌≡◌, ℕ, ◌+◌, ◌<◌, ◌≤◌, List, length, get_or, drop, ℤ, Some, None, Ok, Err, Option, Result, sym, ap, ◌∙◌, subst, arith, MatchResult, IsErrAnd}
+use Rattle.std.proofs.Common.{◌≡◌, ℕ, ◌+◌, ◌<◌, ◌≤◌, List, length, get_or, drop, ℤ, Some, None, Ok, Err, Option, Result, sym, ap, ◌∙◌, subst, arith, MatchResult}
 use Rattle.std.specs.List.{slice_get}
-use Rattle.std.proofs.lemmas.Result.{err_from_is_err_and}
 use Rattle.std.proofs.lemmas.Option.{slice_get-get_or, slice_get_past}
-use Rattle.days.specs.declared.refusal.Refusal.TheVariants.{NoSuchDeal, BufferFull}
+use Rattle.days.specs.declared.refusal.Refusal.TheVariants.{NoSuchDeal}
 use Rattle.text.specs.declared.line.Line.{Line}
 use Rattle.text.specs.declared.line.Line.TheVariants as line
 use Rattle.text.specs.declared.line.Terms.{Terms}
+use Rattle.text.specs.declared.unread.Unread.{Unread}
 use Rattle.writing.specs.Laying.{Laid}
 use Rattle.writing.specs.declared.laying.Full.{Full}
 use Rattle.writing.proofs.Lays.{laid_end, laid_full, laid_length}
 use Rattle.report.specs.Deals.{DealLines, starts_of, deals_of, deal_at}
-use Rattle.report.specs.Ledgers.{stopped_by, as_told, DealReported, ReportOf}
+use Rattle.report.specs.Ledgers.{stopped_by, as_told, DealReported, ReportOf, Reported}
+use Rattle.report.specs.Opened.{unless_refused}
 use Rattle.report.specs.Parts.{mask_of, days_of, offsets_of, closes, closed_by}
 use Rattle.report.specs.Reports.{report_lines}
 use Rattle.report.specs.declared.stopped.Stopped.{Stopped}
@@ -65,20 +66,6 @@ pub told_to_caller :
 told_to_caller lines None buffer laid r after bad told = absurd bad
 told_to_caller lines (Some deal) buffer laid r after stands told = record { laid = laid; stands = stands; told = told }
 
-pub told_by :
-    (laid : Result ℕ Full) (r : Result ℕ Stopped) (Q : Full → Stopped → Type 0) →
-    ((full : Full) (s : Stopped) → Q full s → s ≡ stopped_by BufferFull full.written) →
-    MatchResult laid (λ end. r ≡ Ok end) (λ full. IsErrAnd r (Q full)) → r ≡ as_told laid
-told_by (Ok end) r Q by is = is
-told_by (Err full) r Q by is = let p = err_from_is_err_and r is in p.1 ∙ ap Err (by full p.0 p.2)
-
-pub told_within :
-    (laid : Result ℕ Full) (r : Result ℕ Stopped) (n : ℕ) → r ≡ as_told laid →
-    MatchResult laid (λ end. end ≤ n) (λ full. full.written ≤ n) →
-    MatchResult r (λ end. end ≤ n) (λ stopped. stopped.written ≤ n)
-told_within (Ok end) r n is within = rw is within
-told_within (Err full) r n is within = rw is within
-
 -- past the last deal there is none
 pub no_such_deal :
     (lines : List Line) (k : ℕ) (buffer : List ℕ) (r : Result ℕ Stopped) (after : List ℕ) → length (starts_of lines) ≤ k →
@@ -86,6 +73,13 @@ pub no_such_deal :
 no_such_deal lines k buffer r after past is same =
     let none : length (deals_of lines) ≤ k = omega (arith, as_many_deals 1 0 lines) in
     subst (λ (x : Option DealLines). ReportOf lines x buffer r after) (sym (slice_get_past (deals_of lines) k none)) (is, same)
+
+-- a text that was not refused is its lines
+pub of_the_lines :
+    (refused : Option Unread) (lines : List Line) (k : ℕ) (buffer : List ℕ) (r : Result ℕ Stopped) (after : List ℕ) → refused ≡ None →
+    ReportOf lines (slice_get (deals_of lines) k) buffer r after → Reported (unless_refused refused lines) k buffer r after
+of_the_lines refused lines k buffer r after is report =
+    subst (λ (o : Option Unread). Reported (unless_refused o lines) k buffer r after) (sym is) report
 
 -- what is written lies within the buffer
 pub laid_within :

@@ -1,18 +1,20 @@
 // A text opened as a ledger, and the reports of its deals.
 ghost use Rattle.std.specs.Prelude.{◌≡◌, ◌<◌, ◌≤◌, [], ◌∷◌, length, take, IfOk, MatchResult, slice_index};
-ghost use Rattle.text.specs.Laws.{TextLaw};
+ghost use Rattle.text.specs.Laws.{TextLaw, GoodLines};
+ghost use Rattle.text.specs.Marks.{start};
 ghost use Rattle.text.specs.Meaning.{meaning};
 ghost use Rattle.writing.specs.Laying.{Laid};
 ghost use Rattle.std.specs.List.{slice_get};
+ghost use Rattle.std.specs.Result.{result_err, result_unwrap_or};
 ghost use Rattle.report.specs.Deals.{starts_of, deals_of};
 ghost use Rattle.report.specs.Ledgers.{opened_text, stopped_by, DealReported, ReportOf, Reported, LawOfReport};
-ghost use Rattle.report.specs.Opened.{lines_of, opened};
+ghost use Rattle.report.specs.Opened.{unless_refused, opened};
 ghost use Rattle.report.specs.Printed.{ft_line};
 
 use crate::closings::Closings;
 use crate::deal_text::DealText;
 use crate::drafts::fault_draft;
-use crate::ledger::{Ledger, Opened};
+use crate::ledger::Ledger;
 use crate::stopped::Stopped;
 use calendar::{DatedList, EasterRule, Union, WeekdayPattern};
 use days::Refusal;
@@ -35,26 +37,18 @@ fn index_deals<'a>(lines: &[Line], table: &'a mut [usize]) -> &'a [usize]
     &table[..count]
 }
 
-impl<'a> Opened<'a> {
-    fn read(
-        text: &[u8],
-        lines: &'a mut [Line],
-        deals: &'a mut [usize],
-    ) -> Result<Opened<'a>, Unread>
-        ensures value { lines_of result ≡ opened_text text.now (length lines.old) (length deals.old) }
-        ensures law { TextLaw text.now (meaning text.now) }
-    {
-        let count = text::read(text, lines)?;
-        if deals.len() < count {
-            return Err(Unread::NoRoom);
-        }
-        let lines = &lines[..count];
-        Ok(Opened {
-            lines,
-            deals: index_deals(lines, deals),
-            closings: Closings::of(lines),
-        })
+// Reads a text into the table, and answers how many lines it has, where there are as many places for its deals.
+fn read_lines(text: &[u8], lines: &mut [Line], places: usize) -> Result<usize, Unread>
+    ensures within { (result_unwrap_or result 0 ≤ length lines.new) × (result_unwrap_or result 0 ≤ places) × (result_unwrap_or result 0 ≤ 65536) }
+    ensures opened { unless_refused (result_err result) (take (result_unwrap_or result 0) lines.new) ≡ opened_text text.now (length lines.old) places }
+    ensures good { GoodLines start 1 (take (result_unwrap_or result 0) lines.new) }
+    ensures law { TextLaw text.now (meaning text.now) }
+{
+    let count = text::read(text, lines)?;
+    if places < count {
+        return Err(Unread::NoRoom);
     }
+    Ok(count)
 }
 
 impl<'a> Ledger<'a> {
@@ -65,8 +59,14 @@ impl<'a> Ledger<'a> {
         ensures value { opened result ≡ opened_text text.now (length lines.old) (length deals.old) }
         ensures law { TextLaw text.now (meaning text.now) }
     {
+        let read = read_lines(text, lines, deals.len());
+        // Refused, no line counts.
+        let lines = &lines[..read.unwrap_or(0)];
         Ledger {
-            text: Opened::read(text, lines, deals),
+            lines,
+            deals: index_deals(lines, deals),
+            closings: Closings::of(lines),
+            refused: read.err(),
         }
     }
 }
@@ -103,7 +103,7 @@ fn stopped(refusal: Refusal, written: usize) -> Stopped
     }
 }
 
-impl Opened<'_> {
+impl Ledger<'_> {
     // Where among the lines a deal stands.
     fn place_of(&self, deal: usize) -> usize
         requires { deal < length self.now.deals.now }
@@ -135,7 +135,7 @@ impl Opened<'_> {
     }
 
     // The report of a deal, if there is one.
-    fn report(&self, deal: usize, out: &mut [u8]) -> Result<usize, Stopped>
+    fn report_if_any(&self, deal: usize, out: &mut [u8]) -> Result<usize, Stopped>
         ensures rule { ReportOf self.now.lines.now (slice_get (deals_of self.now.lines.now) deal) out.old result out.new }
         ensures within { MatchResult result (λ end. end ≤ length out.new) (λ stopped. stopped.written ≤ length out.new) }
     {
@@ -145,9 +145,7 @@ impl Opened<'_> {
         self.lay_deal_report(deal, out)
             .map_err(|full| stopped(Refusal::BufferFull, full.written))
     }
-}
 
-impl Ledger<'_> {
     // Lays the report of a deal, counted from 0, into the buffer, and answers how many bytes it has. Bytes beyond them stay.
     // Refused are, the first of these: a text that was refused, with nothing written; a deal that there is not, with
     // nothing written; and a line that does not fit the buffer, with the whole lines before it written.
@@ -156,12 +154,9 @@ impl Ledger<'_> {
         ensures law { LawOfReport (opened self.now) deal }
         ensures within { MatchResult result (λ end. end ≤ length out.new) (λ stopped. stopped.written ≤ length out.new) }
     {
-        match &self.text {
-            Ok(opened) => opened.report(deal, out),
-            Err(why) => Err(Stopped {
-                why: *why,
-                written: 0,
-            }),
+        match self.refused {
+            Some(why) => Err(Stopped { why, written: 0 }),
+            None => self.report_if_any(deal, out),
         }
     }
 }

@@ -1,4 +1,4 @@
-// A text that was opened as a ledger: its lines, the places of its deals among them, and its closed days.
+// A text that was read: its lines, the places of its deals among them, and its closed days.
 ghost use Rattle.std.specs.Prelude.{◌≡◌, ℕ, ◌+◌, ◌<◌, ◌≤◌, length, drop, slice_index};
 ghost use Rattle.report.specs.Deals.{starts_of};
 ghost use Rattle.report.specs.Parts.{mask_of, days_of, offsets_of, holding_in, leading};
@@ -6,22 +6,18 @@ ghost use Rattle.report.specs.Parts.{mask_of, days_of, offsets_of, holding_in, l
 use crate::closings::Closings;
 use text::{Line, Unread};
 
-// What an accepted text says.
 #[derive(Clone, Copy)]
-pub(crate) struct Opened<'a> {
+pub struct Ledger<'a> {
     pub(crate) lines: &'a [Line],
     pub(crate) deals: &'a [usize],
     pub(crate) closings: Closings,
+    // why the text was refused; there are no lines then. A field and no `Result` of all the fields: the checker finds no
+    // place for a type with references and facts behind a `Result`, where a caller keeps a ledger
+    pub(crate) refused: Option<Unread>,
     ghost places: { deals.now ≡ starts_of lines.now },
     ghost pattern: { closings.pattern ≡ mask_of lines.now },
     ghost days: { closings.days ≡ days_of lines.now },
     ghost offsets: { closings.easter ≡ offsets_of lines.now },
     ghost few_lines: { length lines.now ≤ 65536 },
     ghost few_holders: { (k : ℕ) → k < length (starts_of lines.now) → length (leading holding_in (drop (slice_index (starts_of lines.now) k + 1) lines.now)) ≤ 16 },
-}
-
-// A text, opened, or why it was refused.
-#[derive(Clone, Copy)]
-pub struct Ledger<'a> {
-    pub(crate) text: Result<Opened<'a>, Unread>,
 }

@@ -2,7 +2,7 @@ use Rattle.std.proofs.Common.{◌+◌, ◌<◌, length, ap, ◌∙◌, arith}
 use Rattle.std.proofs.lemmas.List.{take_rest}
 use Rattle.report.specs.Deals.{starts_of}
 use Rattle.report.proofs.Reporting.{deal_there, deal_stands, deal_reported, laid_within}
-use Rattle.report.proofs.ledger.Opened.lay_deal_report.Goals as goal
+use Rattle.report.proofs.ledger.Ledger.lay_deal_report.Goals as goal
 
 pub unreachable-requires : goal.unreachable-requires
 unreachable-requires c =

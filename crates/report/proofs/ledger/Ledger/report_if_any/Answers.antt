@@ -1,7 +1,7 @@
 use Rattle.std.proofs.Common.{◌≤◌, length, Err, refl, ap, arith}
 use Rattle.report.specs.Deals.{starts_of}
 use Rattle.report.proofs.Reporting.{no_such_deal}
-use Rattle.report.proofs.ledger.Opened.report.Goals as goal
+use Rattle.report.proofs.ledger.Ledger.report_if_any.Goals as goal
 
 pub returns-then-deal-self-clause-rule : goal.returns-then-deal-self-clause-rule
 returns-then-deal-self-clause-rule c =

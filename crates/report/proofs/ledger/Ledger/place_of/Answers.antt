@@ -1,7 +1,7 @@
 use Rattle.std.proofs.Common.{◌<◌, length, get_or, ap, arith}
 use Rattle.report.specs.Deals.{starts_of}
 use Rattle.report.proofs.DealPlaces.{nth_deal}
-use Rattle.report.proofs.ledger.Opened.place_of.Goals as goal
+use Rattle.report.proofs.ledger.Ledger.place_of.Goals as goal
 
 pub returns-clause-inside : goal.returns-clause-inside
 returns-clause-inside c =
