@@ -1,15 +1,13 @@
 -- An Easter rule closes Easter plus each offset, in each year.
 -- Assumes nothing.
-use Rattle.std.proofs.Common.{◌≡◌, ℕ, suc, ◌+◌, ◌-◌, ◌<◌, ◌≤◌, Bool, true, ◌&&◌, leb, List, length, get_or, ℤ, pos, negsuc, ◌+ℤ◌, ◌-ℤ◌, Some, sym, refl, ap, ◌∙◌, arith, w32, to_z, of_z}
+use Rattle.std.proofs.Common.{◌≡◌, ℕ, suc, ◌+◌, ◌-◌, ◌<◌, ◌≤◌, true, List, length, get_or, ℤ, pos, negsuc, ◌+ℤ◌, ◌-ℤ◌, sym, refl, ◌∙◌, arith}
 use Rattle.std.proofs.ByRecursion.{All-get_or, Decides-by_and}
 use Rattle.std.proofs.lemmas.List.{get_or_default}
 use Rattle.std.proofs.lemmas.Int.{ints}
-use Rattle.std.proofs.lemmas.Bool.{leb-true, ltb-true, and_parts, or_right}
-use Rattle.days.specs.Calendar.{last_day, year_of, month_of, day_of, date, dated, year_span, first_year, last_year}
-use Rattle.days.specs.Easter.{easter_of, easter_number}
+use Rattle.std.proofs.lemmas.Bool.{leb-true, ltb-true, or_right}
+use Rattle.days.specs.Calendar.{last_day, year_of, year_span, first_year, last_year}
+use Rattle.days.specs.Easter.{easter_of}
 use Rattle.days.specs.Spans.{start_of}
-use Rattle.days.specs.declared.dates.Date.{Date}
-use Rattle.days.proofs.Checks.{some_tells}
 use Rattle.days.proofs.Round.{lossless, year_is}
 use Rattle.days.proofs.Spans.{start_mono}
 use Rattle.days.proofs.Years.{years_end}
@@ -17,18 +15,6 @@ use Rattle.days.proofs.EasterTable.{easter_inside}
 use Rattle.calendar.specs.Closed.{above_range}
 use Rattle.calendar.specs.Kinds.{offset_listed, easter_closes, within_sixty, all_within_sixty, ClosesAroundEaster}
 use Rattle.calendar.proofs.Members.{offset_decides, within_range}
-
--- what a date says of its day, and an Easter of its year
-date_tells : (n y m d : ℕ) → Some (date y m d) ≡ dated n → (n ≤ last_day) × (y ≡ year_of n)
-date_tells n y m d e =
-    let p = some_tells (leb n last_day) (date y m d) (date (year_of n) (month_of n) (day_of n)) e in
-    (leb-true _ _ p.0, ap (λ (d : Date). d.year) p.1)
-
-easter_tells : (y e : ℕ) → Some e ≡ easter_number y → (first_year ≤ y) × (y ≤ last_year) × (e ≡ easter_of y)
-easter_tells y e is =
-    let p = some_tells (leb first_year y && leb y last_year) e (easter_of y) is in
-    let range = and_parts _ _ p.0 in
-    (leb-true _ _ range.0, leb-true _ _ range.1, p.1)
 
 -- Easter of a year of the range, between the start of its year and that of the next, with sixty days to spare
 pub spare :
@@ -43,22 +29,6 @@ spare y from to =
     let before = rw e at r.0 in
     let after = rw e at r.1 in
     (before, after, omega (arith, years_end))
-
--- the difference that the code computes
-difference : (n e : ℕ) → n ≤ last_day → e ≤ last_day → to_z w32 (of_z w32 (to_z w32 n -ℤ to_z w32 e)) ≡ pos n -ℤ pos e
-difference n e h k = omega (arith, ints)
-
-pub easter_answer :
-    (offsets : List ℤ) (n y m d e : ℕ) (r : Bool) → Some (date y m d) ≡ dated n → Some e ≡ easter_number y →
-    r ≡ offset_listed offsets (to_z w32 (of_z w32 (to_z w32 n -ℤ to_z w32 e))) → r ≡ easter_closes offsets n
-easter_answer offsets n y m d e r dated sunday is =
-    let date = date_tells n y m d dated in
-    let easter = easter_tells y e sunday in
-    let most = spare y easter.0 easter.1 in
-    let year = date.1 in
-    let day : e ≡ easter_of (year_of n) = easter.2 ∙ rw (← year) refl in
-    let z = difference n e date.0 (omega arith) in
-    is ∙ rw (z, day) (within_range (λ k. offset_listed offsets (pos k -ℤ pos (easter_of (year_of k)))) n date.0)
 
 near : (n e : ℕ) (z : ℤ) → within_sixty z ≡ true → pos n ≡ pos e +ℤ z → (n ≤ e + 60) × (e ≤ n + 60)
 near n e (pos a) t is = let few = leb-true a 60 t in (omega (arith, ints), omega (arith, ints))

@@ -1,17 +1,13 @@
 -- The tests by which a list is searched say what `contains` answers.
 -- Assumes nothing.
-use Rattle.std.proofs.Common.{◌≡◌, ℕ, ◌≤◌, Bool, ◌||◌, eqb, List, ℤ, Decides, refl}
+use Rattle.std.proofs.Common.{◌≡◌, ℕ, ◌≤◌, Bool, ◌||◌, List, ℤ, Decides, refl}
 use Rattle.days.specs.Calendar.{last_day}
 use Rattle.std.proofs.lemmas.Bool.{le-ltb}
 use Rattle.std.specs.Ordering.{int_eq}
 use Rattle.calendar.specs.Closed.{above_range}
 use Rattle.std.specs.List.{ContainsAt as Has}
-use Rattle.std.proofs.lemmas.Bool.Decides.{Decides-by_or, Decides-eqb, Decides-int_eq}
-use Rattle.calendar.specs.Kinds.{listed, offset_listed}
-
-pub listed_decides : (days : List ℕ) (n : ℕ) → Decides (listed days n) (Has days n)
-listed_decides days n =
-    Decides-by_or (λ day. eqb day n) (λ day. day ≡ n) (λ ds. listed ds n) (λ day. Decides-eqb day n) refl (λ _ _. refl) days
+use Rattle.std.proofs.lemmas.Bool.Decides.{Decides-by_or, Decides-int_eq}
+use Rattle.calendar.specs.Kinds.{offset_listed}
 
 pub offset_decides : (offsets : List ℤ) (z : ℤ) → Decides (offset_listed offsets z) (Has offsets z)
 offset_decides offsets z =

@@ -26,10 +26,6 @@ deal_from_terms (line.Payment it) terms e = absent terms e
 pub terms_from_deal : (l : Line) (terms : Terms) → l ≡ line.Deal terms → terms_in (part l) ≡ Some terms
 terms_from_deal l terms e = ap (λ x. terms_in (part x)) e
 
-no_terms : (l : Line) (o : Option Terms) → terms_in (part l) ≡ o → ((terms : Terms) → l ≡ line.Deal terms → ⊥) → o ≡ None
-no_terms l None e not = refl
-no_terms l (Some terms) e not = absurd (not terms (deal_from_terms l terms e))
-
 -- one place for each deal
 as_many_here :
     (o : Option Terms) (n i : ℕ) (ls : List Line) → length (starts_from (i + 1) ls) ≡ length (deals_from (n + 1) ls) →

@@ -12,7 +12,7 @@ use Rattle.writing.specs.Laying.{Laid}
 use Rattle.writing.specs.declared.laying.Full.{Full}
 use Rattle.writing.proofs.Lays.{laid_end, laid_full, laid_length}
 use Rattle.report.specs.Deals.{DealLines, starts_of, deals_of, deal_at}
-use Rattle.report.specs.Ledgers.{stopped_by, as_told, DealReported, ReportOf, Reported}
+use Rattle.report.specs.Ledgers.{stopped_by, DealReported, ReportOf, Reported}
 use Rattle.report.specs.Opened.{unless_refused}
 use Rattle.report.specs.Parts.{mask_of, days_of, offsets_of, closes, closed_by}
 use Rattle.report.specs.Reports.{report_lines}
@@ -58,13 +58,6 @@ deal_reported lines k s terms offsets days mask behind buffer r after o d m b is
     in
     subst (λ (x : Option DealLines). DealReported lines x buffer r after) (sym is)
     (subst (λ (ls : List (List ℕ)). Laid ls buffer 0 r after) same laid)
-
--- what is answered to the caller
-pub told_to_caller :
-    (lines : List Line) (o : Option DealLines) (buffer : List ℕ) (laid : Result ℕ Full) (r : Result ℕ Stopped) (after : List ℕ) →
-    DealReported lines o buffer laid after → r ≡ as_told laid → ReportOf lines o buffer r after
-told_to_caller lines None buffer laid r after bad told = absurd bad
-told_to_caller lines (Some deal) buffer laid r after stands told = record { laid = laid; stands = stands; told = told }
 
 -- past the last deal there is none
 pub no_such_deal :

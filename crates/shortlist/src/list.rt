@@ -81,7 +81,7 @@ impl<T: Blank, const N: usize> ShortList<T, N> {
         ensures value { result ≡ length self.now }
         ensures few { result ≤ N }
     {
-        self.len
+        self.as_slice().len()
     }
 
     // One item more, if there is room.
