@@ -65,6 +65,8 @@ impl Convention {
     }
 }
 
+// Two searches, one forward and one back, since the least and the greatest open day are two promises. Both walk days, by
+// no index. What is asked is a set and a day, here and in every rule: no struct holds both, as the set stays and the day moves.
 fn first_open<S: ClosedDays>(set: &S, low: u32, high: u32) -> Option<u32>
     requires { high ≤ 200000 }
     ensures { LeastOrNone (S.ClosedDays.closed set.now) low high result }

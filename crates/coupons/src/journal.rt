@@ -73,6 +73,7 @@ fn step_of<D: DayCount>(basis: &D, dates: &[u32], day: u32) -> u32
         .saturating_sub(basis.count(first, day))
 }
 
+// A loop of its own beside the register's: the journal shares nothing with what it is held against.
 fn pass_evenings(accounts: &mut [Account], rate: u64, step: u32)
     ensures { accounts.new ≡ map (after_evening rate step) accounts.old }
 {
@@ -152,7 +153,8 @@ impl<'a> Journal<'a> {
         self.all.gain(amount);
     }
 
-    // The same of what is taken.
+    // The same of what is taken. One function over what is done to an account would need clauses for its closure, and be longer
+    // than both.
     fn take(&mut self, holder: u64, amount: u64)
         ensures holders { self.new.holders ≡ slice_set self.old.holders holder (lost amount (slice_index_or self.old.holders holder none_held)) }
         ensures all { self.new.all ≡ lost amount self.old.all }

@@ -49,6 +49,7 @@ fn write_dates(deal: &Deal, table: &mut [u32]) -> Result<usize, Refusal>
 
 fn print_bond(rt: &HostRuntime, diary: &Diary) -> io::Result<()> {
     let deal = diary.deal();
+    // A table of the length of this schedule, which is written in place.
     let mut table = [0; DATES];
     print_heading(rt, &actual_360(), &deal)?;
     match write_dates(&deal, &mut table) {
@@ -62,6 +63,7 @@ fn print_bond(rt: &HostRuntime, diary: &Diary) -> io::Result<()> {
     }
 }
 
+// What can fail, below a `main` that only runs it; each program has its own.
 fn run(rt: &HostRuntime) -> anyhow::Result<()> {
     let diary = Diary::of_half_year().context("the diary names a day that is no date")?;
     print_bond(rt, &diary)?;

@@ -22,7 +22,8 @@ fn print_fault<W: Write>(fault: &Fault, page: &mut [u8], out: &mut W) -> anyhow:
     Ok(out.write_all(&page[..end])?)
 }
 
-// The whole lines before the stop, and then the end.
+// The whole lines before the stop, and then the end. The page is work space and `out` the caller's: a struct of both would be
+// taken apart again in each function.
 fn print_end<W: Write>(stopped: &Stopped, page: &mut [u8], out: &mut W) -> anyhow::Result<()>
     requires { stopped.now.written ≤ length page.old }
 {

@@ -9,6 +9,8 @@ use crate::unit::ticks_per_unit;
 use counts::DayCount;
 use days::Refusal;
 
+// What a call is made with comes as the public methods take it, here and where it is judged; where calls are kept, each is
+// a `Call`.
 impl<D: DayCount> Register<D> {
     // A holder's due is paid; answers it.
     pub(crate) fn make_payment(&mut self, holder: u64) -> Result<u64, Refusal>

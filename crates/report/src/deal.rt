@@ -55,6 +55,8 @@ fn deal_of(terms: &Terms) -> Deal
     }
 }
 
+// The register and the page are lent side by side: a struct of the two would be taken apart at each call. What stays of a
+// lent register, its day count, is said by a clause of each function, since nothing else tells it behind a `&mut`.
 impl DealText<'_> {
     // Opens the register; only a refusal is told.
     fn lay_opening<D: DayCount>(

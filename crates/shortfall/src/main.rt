@@ -19,6 +19,7 @@ fn print_all(rt: &HostRuntime, sale: &Sale) -> io::Result<()> {
     }
 }
 
+// What can fail, below a `main` that only runs it; each program has its own.
 fn run(rt: &HostRuntime) -> anyhow::Result<()> {
     let sale = Sale::in_january().context("the sale names a day that is no date")?;
     print_all(rt, &sale)?;

@@ -27,7 +27,7 @@ pub fn count_lines(text: &[u8]) -> usize
     text.iter().filter(|byte| **byte == LINE_END).count()
 }
 
-// Reads line after line, up to the first fault.
+// Reads line after line, up to the first fault. The text and the table are the caller's, lent as the public call takes them.
 fn fill(text: &[u8], lines: &mut [Line]) -> Result<usize, Fault>
     requires short { length text.now ≤ 65536 }
     requires room { line_count text.now ≤ length lines.old }
