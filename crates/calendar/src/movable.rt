@@ -41,11 +41,19 @@ impl EasterRule {
         Ok(EasterRule { offsets })
     }
 
+    // The offsets, of which there are at most eight.
+    pub fn offsets(&self) -> &[i32]
+        ensures value { result.now ≡ self.now }
+        ensures few { length result.now ≤ 8 }
+    {
+        self.offsets.as_slice()
+    }
+
     // Whether an offset is one of those kept.
     fn keeps(&self, offset: i32) -> bool
         ensures { result ≡ offset_listed self.now offset }
     {
-        self.offsets.as_slice().contains(&offset)
+        self.offsets().contains(&offset)
     }
 }
 

@@ -38,6 +38,15 @@ impl WeekdayPattern {
         }
         Ok(WeekdayPattern { mask })
     }
+
+    // The seven bits, of which at most six are 1.
+    pub fn mask(&self) -> u8
+        ensures value { result ≡ self.now }
+        ensures seven { result < 128 }
+        ensures some_open { count_ones result ≤ 6 }
+    {
+        self.mask
+    }
 }
 
 impl ClosedDays for WeekdayPattern {

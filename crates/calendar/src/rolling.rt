@@ -91,6 +91,7 @@ fn last_open<S: ClosedDays>(set: &S, low: u32, high: u32) -> Option<u32>
     None
 }
 
+// Each convention looks for its day in its own way, so this is a match over the four.
 fn roll_within<S: ClosedDays>(convention: Convention, set: &S, day: u32) -> Option<u32>
     requires { day ≤ 109572 }
     ensures { RollsWithin (S.ClosedDays.closed set.now) convention day result }

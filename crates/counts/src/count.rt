@@ -6,8 +6,6 @@ ghost use Rattle.counts.specs.Counting.{asked, Lawful};
 pub trait DayCount {
     const DENOMINATOR: u32;
 
-    ghost DENOMINATOR: { ℕ };
-
     ghost counted: { Self → ℕ → ℕ → ℕ };
 
     ghost per: { ℕ };

@@ -15,7 +15,7 @@ const PAGE: usize = 65_536;
 
 // Where a statement ends: behind its last deal without a word, and elsewhere with the line that tells the fault.
 fn print_fault<W: Write>(fault: &Fault, page: &mut [u8], out: &mut W) -> anyhow::Result<()> {
-    if let Refusal::NoSuchDeal = fault.refusal {
+    if fault.refusal == Refusal::NoSuchDeal {
         return Ok(());
     }
     let end = fault_line(fault, page).map_err(|_| anyhow!("the page has no room for a line"))?;

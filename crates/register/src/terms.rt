@@ -58,9 +58,9 @@ impl Terms {
         ensures dates { result.dates.items ≡ dates.now }
         ensures rate { result.rate ≡ rate }
     {
-        match ArrayVec::try_from(dates) {
-            Ok(dates) => Terms { dates, rate },
-            Err(_) => unreachable(),
+        Terms {
+            dates: ArrayVec::try_from(dates).unwrap(),
+            rate,
         }
     }
 }

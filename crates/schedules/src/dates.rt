@@ -30,7 +30,8 @@ impl SoundDeal {
         (last - first) / self.deal.months as u32
     }
 
-    // The date that is `times` the months from the end, or from the start.
+    // The date that is `times` the months from the end, or from the start: each of the two stubs counts in its own direction,
+    // here and below.
     fn counted(&self, times: u32) -> u32
         requires { times ≤ steps self.now.deal }
         ensures { result ≡ counted self.now.deal times }

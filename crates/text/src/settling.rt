@@ -56,8 +56,7 @@ pub(crate) fn settle<K: Judged>(it: At<K::Said>) -> Result<At<K::Value>, Fault>
     ensures { result ≡ settle_by K.settles it }
 {
     let place = it.place();
-    match K::settled(it.value) {
-        Ok(value) => Ok(place.holds(value)),
-        Err(refusal) => Err(place.refuses(refusal)),
-    }
+    K::settled(it.value)
+        .map(|value| place.holds(value))
+        .map_err(|refusal| place.refuses(refusal))
 }

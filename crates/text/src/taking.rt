@@ -59,10 +59,9 @@ impl<'a> Fields<'a> {
     {
         let word = self.next_word()?;
         let place = word.place();
-        match K::said(word.value) {
-            Some(said) => Ok(place.holds(said)),
-            None => Err(place.refuses(Refusal::BadField)),
-        }
+        K::said(word.value)
+            .map(|said| place.holds(said))
+            .ok_or(place.refuses(Refusal::BadField))
     }
 
     // No word is left over.

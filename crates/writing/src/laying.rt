@@ -15,7 +15,7 @@ pub fn lay(line: &Draft, out: &mut [u8], at: usize) -> Result<usize, Full>
     ensures laid { Laid (line.now ∷ []) out.old at result out.new }
     ensures longest { (room : ℕ) (lines : List (List ℕ)) → LongestFront room lines (fitting room lines) }
 {
-    let text = line.bytes.as_slice();
+    let text = line.bytes();
     // Behind a place past the end there is no room, and a line of no bytes needs none.
     let start = at.min(out.len());
     if text.len() > out.len() - start {

@@ -1,5 +1,5 @@
 // Bytes put behind a draft. What a draft has no room for is cut off.
-ghost use Rattle.std.specs.Prelude.{◌≡◌, [], ◌∷◌, ◌++◌, take};
+ghost use Rattle.std.specs.Prelude.{◌≡◌, [], ◌∷◌, ◌++◌, ◌≤◌, length, take};
 
 use crate::draft::Draft;
 use shortlist::ShortList;
@@ -12,6 +12,14 @@ impl Draft {
         Draft {
             bytes: ShortList::new(),
         }
+    }
+
+    // The bytes of the line, at most 128.
+    pub fn bytes(&self) -> &[u8]
+        ensures value { result.now ≡ self.now }
+        ensures few { length result.now ≤ 128 }
+    {
+        self.bytes.as_slice()
     }
 
     pub fn push(&mut self, byte: u8)

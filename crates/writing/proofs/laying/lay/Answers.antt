@@ -5,7 +5,7 @@ use Rattle.writing.proofs.laying.lay.Goals as goal
 
 pub returns-then-text-out-clause-laid : goal.returns-then-text-out-clause-laid
 returns-then-text-out-clause-laid c =
-    let long = ap length (c.as_slice-text.ensures.value ∙ c.line.view_is) in
+    let long = ap length c.bytes-text.ensures.value in
     laid_too_long c.args.line.now c.args.out.now c.args.out.now c.args.at _ (omega arith) refl refl
 
 pub returns-then-text-out-clause-longest : goal.returns-then-text-out-clause-longest
@@ -17,8 +17,8 @@ returns-clause-laid c =
     let out = c.args.out.now in
     let at = c.args.at in
     let start = c.min-start.result in
-    let is = c.as_slice-text.ensures.value ∙ c.line.view_is in
-    let len = length c.as_slice-text.result.now in
+    let is = c.bytes-text.ensures.value in
+    let len = length c.bytes-text.result.now in
     let long : len ≡ length text = ap length is in
     let many : start + len - start ≡ length text = omega arith in
     laid_line text out _ at (at + len) (omega arith)

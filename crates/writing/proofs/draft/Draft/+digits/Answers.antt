@@ -1,8 +1,8 @@
 use Rattle.std.proofs.Common.{◌≡◌, [], ◌∷◌, ◌++◌, ◌+◌, ◌%◌, take, sym, ap, ◌∙◌, arith}
 use Rattle.std.proofs.lemmas.Fmt.{decimal_digit}
 use Rattle.writing.proofs.Numerals.{number_last}
-use Rattle.writing.proofs.draft.Draft.+number.Goals as goal
-use Rattle.writing.proofs.draft.Draft.+number.Goals.{then-n-gt9, else-n-gt9}
+use Rattle.writing.proofs.draft.Draft.+digits.Goals as goal
+use Rattle.writing.proofs.draft.Draft.+digits.Goals.{then-n-gt9, else-n-gt9}
 
 pub returns : goal.returns
 returns t c =
@@ -11,7 +11,7 @@ returns t c =
     elim c.if-n-gt9.branch [
       | then-n-gt9 w ↦
           c.push.ensures ∙ ap (λ s. take 128 (s ++ ((48 + n % 10) ∷ []))) w.self-is
-          ∙ number_last n text w.number.new.self (omega arith) c.ranges.n.fits w.number.ensures
+          ∙ number_last n text w.digits.new.self (omega arith) c.ranges.n.fits w.digits.ensures
       | else-n-gt9 w ↦
           let digit : n % 10 ≡ n = omega arith in
           c.push.ensures ∙ ap (λ s. take 128 (s ++ ((48 + n % 10) ∷ []))) w.self-is
