@@ -34,6 +34,8 @@ pub fn actual_365() -> Actual365
 impl<const YEAR: u32> DayCount for Actual<YEAR> {
     const DENOMINATOR: u32 = YEAR;
 
+    ghost DENOMINATOR = { YEAR };
+
     ghost counted = { λ _. actual };
 
     ghost per = { YEAR };
@@ -41,7 +43,7 @@ impl<const YEAR: u32> DayCount for Actual<YEAR> {
     ghost lawful = { λ basis. actual_lawful YEAR basis.long basis.short };
 
     fn per_year(&self) -> u32 {
-        YEAR
+        Self::DENOMINATOR
     }
 
     fn count(&self, a: u32, b: u32) -> u32 {
