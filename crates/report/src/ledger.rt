@@ -11,8 +11,8 @@ pub struct Ledger<'a> {
     pub(crate) lines: &'a [Line],
     pub(crate) deals: &'a [usize],
     pub(crate) closings: Closings,
-    // why the text was refused; there are no lines then. A field and no `Result` of all the fields: the checker finds no
-    // place for a type with references and facts behind a `Result`, where a caller keeps a ledger
+    // why the text was refused; there are no lines then. A field and no `Result` of all the fields: with that, the checker
+    // proved this crate, but made no proof of some callers that keep a ledger
     pub(crate) refused: Option<Unread>,
     ghost places: { deals.now ≡ starts_of lines.now },
     ghost pattern: { closings.pattern ≡ mask_of lines.now },

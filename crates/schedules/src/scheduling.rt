@@ -58,8 +58,8 @@ fn lay_out<S: ClosedDays>(
 }
 
 // Judges the deal and the room in the table, in the order of the refusals, and then makes the schedule. The set and the table
-// are the caller's, and come beside the deal as the public call takes them. The slots are an array whose front is used, as
-// no heap is needed here.
+// are the caller's, and come beside the deal as the public call takes them. The slots are an array whose front is used:
+// how many there are is known before the first is written.
 fn make<S: ClosedDays>(deal: &Deal, set: &S, table: &mut [u32]) -> Result<usize, Refusal>
     ensures { ByRule (S.ClosedDays.closed set.now) deal.now table.old result table.new }
 {
