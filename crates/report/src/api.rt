@@ -74,29 +74,17 @@ impl<'a> Ledger<'a> {
 type ClosedSet<'a> = Union<EasterRule, Union<DatedList<'a>, WeekdayPattern>>;
 
 impl Closings {
-    fn rule(&self) -> EasterRule
-        ensures { result ≡ take self.now.offset_count self.now.offsets }
-    {
-        EasterRule::new(&self.offsets[..self.offset_count]).unwrap()
-    }
-
-    fn pattern(&self) -> WeekdayPattern
-        ensures { result ≡ self.now.mask }
-    {
-        WeekdayPattern::new(self.mask).unwrap()
-    }
-
     // The set of closed days: what the Easter rule, the list or the pattern closes.
     fn set(&self) -> ClosedSet<'_>
-        ensures easter { result.first ≡ take self.now.offset_count self.now.offsets }
-        ensures days { result.second.first.days.now ≡ take self.now.day_count self.now.days }
-        ensures pattern { result.second.second ≡ self.now.mask }
+        ensures easter { result.first ≡ self.now.easter }
+        ensures days { result.second.first.days.now ≡ take self.now.count self.now.days }
+        ensures pattern { result.second.second ≡ self.now.pattern }
     {
         Union {
-            first: self.rule(),
+            first: self.easter,
             second: Union {
-                first: DatedList::new(&self.days[..self.day_count]),
-                second: self.pattern(),
+                first: DatedList::new(&self.days[..self.count]),
+                second: self.pattern,
             },
         }
     }

@@ -5,9 +5,12 @@ ghost use Rattle.calendar.specs.Kinds.{all_within_sixty};
 ghost use Rattle.text.specs.declared.line.Line.{Line};
 ghost use Rattle.report.specs.Parts.{Part, part, gathered, mask_of, days_of, offsets_of};
 
-use crate::closings::{Closings, MOST_DATES, MOST_OFFSETS};
+use crate::closings::{Closings, MOST_DATES};
+use calendar::{EasterRule, WeekdayPattern};
 use shortlist::{Blank, ShortList};
 use text::Line;
+
+const MOST_OFFSETS: usize = 8;
 
 // The weekday pattern, or no closed weekday.
 fn mask_of(lines: &[Line]) -> u8
@@ -41,6 +44,26 @@ fn gather<T: Blank, const N: usize, F: Fn(&Line) -> Option<T>>(
     all
 }
 
+fn easter_rule(lines: &[Line]) -> EasterRule
+    requires few { length (offsets_of lines.now) ≤ 8 }
+    requires near { all_within_sixty (offsets_of lines.now) ≡ true }
+    ensures { take result.count result.offsets ≡ offsets_of lines.now }
+{
+    let offsets: ShortList<i32, MOST_OFFSETS> = gather(lines, |line| match line {
+        Line::Offset(offset) => Some(offset.value),
+        _ => None,
+    });
+    EasterRule::new(offsets.as_slice()).unwrap()
+}
+
+fn weekday_pattern(lines: &[Line]) -> WeekdayPattern
+    requires small { mask_of lines.now < 128 }
+    requires opens { count_ones (mask_of lines.now) ≤ 6 }
+    ensures { result.mask ≡ mask_of lines.now }
+{
+    WeekdayPattern::new(mask_of(lines)).unwrap()
+}
+
 // The items of a list in an array, with blanks behind them.
 fn padded<T: Blank, const N: usize>(list: &ShortList<T, N>) -> [T; N]
     ensures { take (length list.now) result ≡ list.now }
@@ -59,24 +82,19 @@ impl Closings {
         requires days { length (days_of lines.now) ≤ 512 }
         requires few { length (offsets_of lines.now) ≤ 8 }
         requires near { all_within_sixty (offsets_of lines.now) ≡ true }
-        ensures mask { result.mask ≡ mask_of lines.now }
-        ensures days { take result.day_count result.days ≡ days_of lines.now }
-        ensures offsets { take result.offset_count result.offsets ≡ offsets_of lines.now }
+        ensures mask { result.pattern.mask ≡ mask_of lines.now }
+        ensures days { take result.count result.days ≡ days_of lines.now }
+        ensures offsets { take result.easter.count result.easter.offsets ≡ offsets_of lines.now }
     {
-        let offsets: ShortList<i32, MOST_OFFSETS> = gather(lines, |line| match line {
-            Line::Offset(offset) => Some(offset.value),
-            _ => None,
-        });
         let days: ShortList<u32, MOST_DATES> = gather(lines, |line| match line {
             Line::ClosedDay(day) => Some(day.value),
             _ => None,
         });
         Closings {
-            mask: mask_of(lines),
-            offsets: padded(&offsets),
-            offset_count: offsets.len(),
+            easter: easter_rule(lines),
+            pattern: weekday_pattern(lines),
             days: padded(&days),
-            day_count: days.len(),
+            count: days.len(),
         }
     }
 }

@@ -15,9 +15,9 @@ pub struct Ledger<'a> {
     // proved this crate, but made no proof of some callers that keep a ledger
     pub(crate) refused: Option<Unread>,
     ghost places: { deals.now ≡ starts_of lines.now },
-    ghost pattern: { closings.mask ≡ mask_of lines.now },
-    ghost days: { take closings.day_count closings.days ≡ days_of lines.now },
-    ghost offsets: { take closings.offset_count closings.offsets ≡ offsets_of lines.now },
+    ghost pattern: { closings.pattern.mask ≡ mask_of lines.now },
+    ghost days: { take closings.count closings.days ≡ days_of lines.now },
+    ghost offsets: { take closings.easter.count closings.easter.offsets ≡ offsets_of lines.now },
     ghost few_lines: { length lines.now ≤ 65536 },
     ghost few_holders: { (k : ℕ) → k < length (starts_of lines.now) → length (leading holding_in (drop (slice_index (starts_of lines.now) k + 1) lines.now)) ≤ 16 },
 }
