@@ -1,11 +1,11 @@
 // The closed days of a text, gathered from its lines.
-ghost use Rattle.std.specs.Prelude.{◌≡◌, ◌<◌, ◌≤◌, true, length, Option, count_ones};
+ghost use Rattle.std.specs.Prelude.{◌≡◌, ◌<◌, ◌≤◌, true, length, take, Option, count_ones};
 ghost use Rattle.std.specs.Fn.{FnReturnsAt};
 ghost use Rattle.calendar.specs.Kinds.{all_within_sixty};
 ghost use Rattle.text.specs.declared.line.Line.{Line};
 ghost use Rattle.report.specs.Parts.{Part, part, gathered, mask_of, days_of, offsets_of};
 
-use crate::closings::Closings;
+use crate::closings::{Closings, MOST_DATES};
 use calendar::{EasterRule, WeekdayPattern};
 use shortlist::{Blank, ShortList};
 use text::Line;
@@ -47,7 +47,7 @@ fn gather<T: Blank, const N: usize, F: Fn(&Line) -> Option<T>>(
 fn easter_rule(lines: &[Line]) -> EasterRule
     requires few { length (offsets_of lines.now) ≤ 8 }
     requires near { all_within_sixty (offsets_of lines.now) ≡ true }
-    ensures { result ≡ offsets_of lines.now }
+    ensures { take result.count result.offsets ≡ offsets_of lines.now }
 {
     let offsets: ShortList<i32, MOST_OFFSETS> = gather(lines, |line| match line {
         Line::Offset(offset) => Some(offset.value),
@@ -59,9 +59,19 @@ fn easter_rule(lines: &[Line]) -> EasterRule
 fn weekday_pattern(lines: &[Line]) -> WeekdayPattern
     requires small { mask_of lines.now < 128 }
     requires opens { count_ones (mask_of lines.now) ≤ 6 }
-    ensures { result ≡ mask_of lines.now }
+    ensures { result.mask ≡ mask_of lines.now }
 {
     WeekdayPattern::new(mask_of(lines)).unwrap()
+}
+
+// The items of a list in an array, with blanks behind them.
+fn padded<T: Blank, const N: usize>(list: &ShortList<T, N>) -> [T; N]
+    ensures { take (length list.now) result ≡ list.now }
+{
+    let mut places = [T::blank(); N];
+    let items = list.as_slice();
+    places[..items.len()].copy_from_slice(items);
+    places
 }
 
 impl Closings {
@@ -72,17 +82,19 @@ impl Closings {
         requires days { length (days_of lines.now) ≤ 512 }
         requires few { length (offsets_of lines.now) ≤ 8 }
         requires near { all_within_sixty (offsets_of lines.now) ≡ true }
-        ensures mask { result.pattern ≡ mask_of lines.now }
-        ensures days { result.days ≡ days_of lines.now }
-        ensures offsets { result.easter ≡ offsets_of lines.now }
+        ensures mask { result.pattern.mask ≡ mask_of lines.now }
+        ensures days { take result.count result.days ≡ days_of lines.now }
+        ensures offsets { take result.easter.count result.easter.offsets ≡ offsets_of lines.now }
     {
+        let days: ShortList<u32, MOST_DATES> = gather(lines, |line| match line {
+            Line::ClosedDay(day) => Some(day.value),
+            _ => None,
+        });
         Closings {
             easter: easter_rule(lines),
             pattern: weekday_pattern(lines),
-            days: gather(lines, |line| match line {
-                Line::ClosedDay(day) => Some(day.value),
-                _ => None,
-            }),
+            days: padded(&days),
+            count: days.len(),
         }
     }
 }
