@@ -7,7 +7,6 @@ ghost use Rattle.report.specs.Parts.{Part, part, gathered, mask_of, days_of, off
 
 use crate::closings::{Closings, MOST_DATES};
 use calendar::{EasterRule, WeekdayPattern};
-use shortlist::{Blank, ShortList};
 use text::Line;
 
 const MOST_OFFSETS: usize = 8;
@@ -24,24 +23,24 @@ fn mask_of(lines: &[Line]) -> u8
     0
 }
 
-// Gathers what is found in the lines, which there is room for.
-fn gather<T: Blank, const N: usize, F: Fn(&Line) -> Option<T>>(
-    lines: &[Line],
-    find: F,
-) -> ShortList<T, N>
+// Gathers what is found in the lines into a table, which has room for it, and answers how much there is.
+fn gather<T: Copy, F: Fn(&Line) -> Option<T>>(lines: &[Line], find: F, table: &mut [T]) -> usize
     ghost found: { Part → Option T }
     requires callable { F.IsAlwaysCallable find }
     requires finds { (line : Line) (o : Option T) → FnReturnsAt F.Fn find line o → o ≡ found (part line) }
-    requires room { length (gathered found lines.now) ≤ N }
-    ensures { result ≡ gathered found lines.now }
+    requires room { length (gathered found lines.now) ≤ length table.old }
+    requires short { length table.old ≤ 512 }
+    ensures within { result ≤ length table.new }
+    ensures found { take result table.new ≡ gathered found lines.now }
 {
-    let mut all = ShortList::new();
+    let mut count = 0;
     for line in lines {
         if let Some(item) = find(line) {
-            let _ = all.push(item);
+            table[count] = item;
+            count += 1;
         }
     }
-    all
+    count
 }
 
 fn easter_rule(lines: &[Line]) -> EasterRule
@@ -49,11 +48,13 @@ fn easter_rule(lines: &[Line]) -> EasterRule
     requires near { all_within_sixty (offsets_of lines.now) ≡ true }
     ensures { take result.count result.offsets ≡ offsets_of lines.now }
 {
-    let offsets: ShortList<i32, MOST_OFFSETS> = gather(lines, |line| match line {
+    let mut offsets = [0; MOST_OFFSETS];
+    let find = |line: &Line| match line {
         Line::Offset(offset) => Some(offset.value),
         _ => None,
-    });
-    EasterRule::new(offsets.as_slice()).unwrap()
+    };
+    let count = gather(lines, find, &mut offsets);
+    EasterRule::new(&offsets[..count]).unwrap()
 }
 
 fn weekday_pattern(lines: &[Line]) -> WeekdayPattern
@@ -62,16 +63,6 @@ fn weekday_pattern(lines: &[Line]) -> WeekdayPattern
     ensures { result.mask ≡ mask_of lines.now }
 {
     WeekdayPattern::new(mask_of(lines)).unwrap()
-}
-
-// The items of a list in an array, with blanks behind them.
-fn padded<T: Blank, const N: usize>(list: &ShortList<T, N>) -> [T; N]
-    ensures { take (length list.now) result ≡ list.now }
-{
-    let mut places = [T::blank(); N];
-    let items = list.as_slice();
-    places[..items.len()].copy_from_slice(items);
-    places
 }
 
 impl Closings {
@@ -86,15 +77,17 @@ impl Closings {
         ensures days { take result.count result.days ≡ days_of lines.now }
         ensures offsets { take result.easter.count result.easter.offsets ≡ offsets_of lines.now }
     {
-        let days: ShortList<u32, MOST_DATES> = gather(lines, |line| match line {
+        let mut days = [0; MOST_DATES];
+        let find = |line: &Line| match line {
             Line::ClosedDay(day) => Some(day.value),
             _ => None,
-        });
+        };
+        let count = gather(lines, find, &mut days);
         Closings {
             easter: easter_rule(lines),
             pattern: weekday_pattern(lines),
-            days: padded(&days),
-            count: days.len(),
+            days,
+            count,
         }
     }
 }
