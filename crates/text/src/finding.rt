@@ -2,14 +2,15 @@
 ghost use Rattle.std.specs.Prelude.{◌≡◌, ℕ, ◌<◌, ◌≤◌, ◌≢◌, length, MatchOption, ◌==◌, slice_index};
 ghost use Rattle.text.specs.Cuts.{Splits, Without};
 
-// Where the first such byte stands, or where the bytes end: one answer for both, so that a step moves one index alone.
+// Where the first such byte stands, or where the bytes end. A loop: most words are short, and by `position` each step costs
+// more.
 fn first_place(bytes: &[u8], byte: u8) -> usize
     ensures inside { result ≤ length bytes.now }
     ensures before { (k : ℕ) → k < result → slice_index bytes.now k ≢ byte }
     ensures found { result < length bytes.now → slice_index bytes.now result ≡ byte }
 {
-    for index in 0..bytes.len() {
-        if bytes[index] == byte {
+    for (index, it) in bytes.iter().enumerate() {
+        if *it == byte {
             return index;
         }
     }
