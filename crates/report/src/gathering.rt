@@ -23,7 +23,8 @@ fn mask_of(lines: &[Line]) -> u8
     0
 }
 
-// Gathers what is found in the lines into a table, which has room for it, and answers how much there is.
+// Gathers what is found in the lines into a table, which has room for it, and answers how much there is. The count is kept by
+// hand, as it is the next free place of a table that is lent.
 fn gather<T: Copy, F: Fn(&Line) -> Option<T>>(lines: &[Line], find: F, table: &mut [T]) -> usize
     ghost found: { Part → Option T }
     requires callable { F.IsAlwaysCallable find }
