@@ -1,3 +1,4 @@
 pub mod Members
 pub mod Around
 pub mod Rolls
+pub mod Kept

@@ -2,6 +2,7 @@
 ghost use Rattle.std.specs.Prelude.{◌≡◌, ◌≤◌};
 ghost use Rattle.counts.specs.Actual.{actual_lawful};
 ghost use Rattle.counts.specs.Bases.{actual};
+ghost use Rattle.counts.specs.Counting.{asked};
 
 use crate::count::DayCount;
 use crate::ranged::ranged;
@@ -31,22 +32,46 @@ pub fn actual_365() -> Actual365
     Actual {}
 }
 
-impl<const YEAR: u32> DayCount for Actual<YEAR> {
-    const DENOMINATOR: u32 = YEAR;
+fn days_passed(a: u32, b: u32) -> u32
+    ensures { result ≡ asked actual a b }
+{
+    ranged(|from, to| to - from, a, b)
+}
 
-    ghost DENOMINATOR = { YEAR };
+// The two counts answer by constants of their own, and not by one impl over any year: of a constant in a generic block
+// nothing is known unless each day count, those of callers too, has to state it in a ghost member.
+impl DayCount for Actual360 {
+    const DENOMINATOR: u32 = 360;
 
     ghost counted = { λ _. actual };
 
-    ghost per = { YEAR };
+    ghost per = { 360 };
 
-    ghost lawful = { λ basis. actual_lawful YEAR basis.long basis.short };
+    ghost lawful = { λ basis. actual_lawful 360 basis.long basis.short };
 
     fn per_year(&self) -> u32 {
         Self::DENOMINATOR
     }
 
     fn count(&self, a: u32, b: u32) -> u32 {
-        ranged(|from, to| to - from, a, b)
+        days_passed(a, b)
+    }
+}
+
+impl DayCount for Actual365 {
+    const DENOMINATOR: u32 = 365;
+
+    ghost counted = { λ _. actual };
+
+    ghost per = { 365 };
+
+    ghost lawful = { λ basis. actual_lawful 365 basis.long basis.short };
+
+    fn per_year(&self) -> u32 {
+        Self::DENOMINATOR
+    }
+
+    fn count(&self, a: u32, b: u32) -> u32 {
+        days_passed(a, b)
     }
 }

@@ -6,8 +6,6 @@ ghost use Rattle.counts.specs.Counting.{asked, Lawful};
 pub trait DayCount {
     const DENOMINATOR: u32;
 
-    ghost DENOMINATOR: { ℕ };
-
     ghost counted: { Self → ℕ → ℕ → ℕ };
 
     ghost per: { ℕ };
@@ -15,7 +13,6 @@ pub trait DayCount {
     // The denominator: how many counted days make a year.
     fn per_year(&self) -> u32
         ensures value { result ≡ per }
-        ensures constant { result ≡ DENOMINATOR }
         ensures bound { (1 ≤ result) × (result ≤ 366) };
 
     // The count from day a to day b; 0 where they are not in order, or not both in the range.

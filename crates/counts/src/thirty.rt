@@ -84,8 +84,6 @@ fn european_within(a: u32, b: u32) -> u32
 impl DayCount for BondBasis {
     const DENOMINATOR: u32 = DAYS_A_YEAR;
 
-    ghost DENOMINATOR = { 360 };
-
     ghost counted = { λ _. bond };
 
     ghost per = { 360 };
@@ -106,8 +104,6 @@ impl DayCount for BondBasis {
 
 impl DayCount for European {
     const DENOMINATOR: u32 = DAYS_A_YEAR;
-
-    ghost DENOMINATOR = { 360 };
 
     ghost counted = { λ _. european };
 

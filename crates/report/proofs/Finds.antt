@@ -1,16 +1,16 @@
--- What is found in lines, gathered one by one.
+-- What is found in lines, gathered into a table one by one.
 -- Assumes nothing.
-use Rattle.std.proofs.Common.{◌≡◌, ℕ, ◌+◌, ◌<◌, ◌≤◌, List, [], ◌∷◌, ◌++◌, length, get_or, drop, Some, None, Ok, Err, Option, Result, OnOk, OnErr, sym, ap, ◌∙◌, append_assoc, arith}
-use Rattle.std.proofs.lemmas.List.{append-nil, length-append, at_drop_more, at_drop_all}
-use Rattle.shortlist.specs.declared.list.NoRoom.{NoRoom}
+use Rattle.std.proofs.Common.{◌≡◌, ℕ, ◌+◌, ◌<◌, ◌≤◌, List, [], ◌∷◌, ◌++◌, length, get_or, set, take, drop, Some, None, Option, sym, ap, ◌∙◌, append_assoc, arith}
+use Rattle.std.proofs.lemmas.List.{append-nil, length-append, length-take-le, at_drop_more, at_drop_all, take_more_set}
 use Rattle.text.specs.declared.line.Line.{Line}
 use Rattle.text.specs.declared.line.Line.TheVariants.{Posting}
 use Rattle.report.specs.Parts.{Part, part, put_first, gathered}
 
 module _ {X : Type 0} (find : Part → Option X) (lines : List Line) where
-  -- a list holds what was found before line i
-  pub record UpTo (all : List X) (i : ℕ) : Type 0 where
-    pub is : all ++ gathered find (drop i lines) ≡ gathered find lines
+  -- the first n places of a table hold what was found before line i
+  pub record Copied (table : List X) (n i : ℕ) : Type 0 where
+    pub within : n ≤ length table
+    pub so_far : take n table ++ gathered find (drop i lines) ≡ gathered find lines
 
   found_here :
       (i : ℕ) (o : Option X) → i < length lines → find (part (get_or lines i Posting)) ≡ o →
@@ -18,30 +18,38 @@ module _ {X : Type 0} (find : Part → Option X) (lines : List Line) where
   found_here i o inside is =
       at_drop_more (gathered find) lines i Posting inside ∙ ap (λ p. put_first p (gathered find (drop (i + 1) lines))) is
 
-  -- one more, which the list has room for
-  pub found_more :
-      (all : List X) (i : ℕ) (x : X) (n : ℕ) (r : Result (Unit {0}) NoRoom) (after : List X) →
-      length (gathered find lines) ≤ n → i < length lines → find (part (get_or lines i Posting)) ≡ Some x → UpTo all i →
-      OnOk r ((length all < n) × (after ≡ all ++ (x ∷ []))) → OnErr r ((length all ≡ n) × (after ≡ all)) →
-      UpTo after (i + 1)
-  found_more all i x n (Ok done) after fits inside is so_far room full =
+  pub copied_room :
+      (table : List X) (n i : ℕ) (x : X) → Copied table n i → i < length lines → length (gathered find lines) ≤ length table →
+      find (part (get_or lines i Posting)) ≡ Some x → n < length table
+  copied_room table n i x copied inside fits is =
+      let here = ap length (found_here i (Some x) inside is) in
+      let all = sym (length-append (take n table) (gathered find (drop i lines))) ∙ ap length copied.so_far in
+      omega (arith, all, here, length-take-le n table copied.within)
+
+  pub copied_more :
+      (table : List X) (n i : ℕ) (x : X) (after : List X) → Copied table n i → i < length lines → n < length table →
+      find (part (get_or lines i Posting)) ≡ Some x → after ≡ set table n x → length after ≡ length table → Copied after (n + 1) (i + 1)
+  copied_more table n i x after copied inside room is set_there long =
       let later = gathered find (drop (i + 1) lines) in
       record {
-        is =
-            ap (λ t. t ++ later) room.1
-            ∙ (append_assoc all (x ∷ []) later
-            ∙ (ap (λ t. all ++ t) (sym (found_here i (Some x) inside is)) ∙ so_far.is));
+        within = omega arith;
+        so_far =
+            ap (λ t. take (n + 1) t ++ later) set_there
+            ∙ (ap (λ t. t ++ later) (take_more_set table n x room)
+            ∙ (append_assoc (take n table) (x ∷ []) later
+            ∙ (ap (λ t. take n table ++ t) (sym (found_here i (Some x) inside is)) ∙ copied.so_far)));
       }
-  found_more all i x n (Err no_room) after fits inside is so_far room full =
-      let here = ap length (found_here i (Some x) inside is) in
-      let whole = sym (length-append all (gathered find (drop i lines))) ∙ ap length so_far.is in
-      absurd (omega (arith, whole, here, full.0))
 
-  pub found_past :
-      (all : List X) (i : ℕ) → i < length lines → find (part (get_or lines i Posting)) ≡ None → UpTo all i → UpTo all (i + 1)
-  found_past all i inside none so_far =
-      record { is = ap (λ t. all ++ t) (sym (found_here i None inside none)) ∙ so_far.is }
+  pub copied_past :
+      (table : List X) (n i : ℕ) → Copied table n i → i < length lines → find (part (get_or lines i Posting)) ≡ None →
+      Copied table n (i + 1)
+  copied_past table n i copied inside none =
+      record {
+        within = copied.within;
+        so_far = ap (λ t. take n table ++ t) (sym (found_here i None inside none)) ∙ copied.so_far;
+      }
 
-  pub found_all : (all : List X) (i : ℕ) → UpTo all i → length lines ≤ i → all ≡ gathered find lines
-  found_all all i so_far past =
-      sym (append-nil all) ∙ (ap (λ t. all ++ t) (sym (at_drop_all (gathered find) lines i past)) ∙ so_far.is)
+  pub copied_all : (table : List X) (n i : ℕ) → Copied table n i → length lines ≤ i → take n table ≡ gathered find lines
+  copied_all table n i copied past =
+      sym (append-nil (take n table))
+      ∙ (ap (λ t. take n table ++ t) (sym (at_drop_all (gathered find) lines i past)) ∙ copied.so_far)

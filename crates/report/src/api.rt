@@ -77,13 +77,13 @@ impl Closings {
     // The set of closed days: what the Easter rule, the list or the pattern closes.
     fn set(&self) -> ClosedSet<'_>
         ensures easter { result.first ≡ self.now.easter }
-        ensures days { result.second.first.days.now ≡ self.now.days }
+        ensures days { result.second.first.days.now ≡ take self.now.count self.now.days }
         ensures pattern { result.second.second ≡ self.now.pattern }
     {
         Union {
             first: self.easter,
             second: Union {
-                first: DatedList::new(self.days.as_slice()),
+                first: DatedList::new(&self.days[..self.count]),
                 second: self.pattern,
             },
         }

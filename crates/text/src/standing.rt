@@ -30,6 +30,7 @@ pub(crate) enum Standing {
 }
 
 // Each rule below is a match over where a line stands and its mark, as the format states it.
+// What it asks of the calendar's lines is named alone, since a struct that is named whole is copied for each line.
 impl Standing {
     // Where the first line of a text stands.
     pub(crate) const START: Standing = Standing::InCalendar(CalendarLines {
@@ -43,7 +44,8 @@ impl Standing {
         ensures { result ≡ allowed self mark }
     {
         match (self, mark) {
-            (Standing::InCalendar(seen), Mark::Pattern) => !seen.has_pattern,
+            (Standing::InCalendar(CalendarLines { has_pattern, .. }), Mark::Pattern) =>
+                !has_pattern,
             (Standing::InCalendar(_), Mark::ClosedDay | Mark::Offset | Mark::Deal) => true,
             (Standing::InCalendar(_), _) => false,
             (_, Mark::Pattern | Mark::ClosedDay | Mark::Offset) => false,
@@ -57,8 +59,10 @@ impl Standing {
         ensures { result ≡ full self mark }
     {
         match (self, mark) {
-            (Standing::InCalendar(seen), Mark::ClosedDay) => seen.dates >= MOST_CLOSED_DAYS,
-            (Standing::InCalendar(seen), Mark::Offset) => seen.offsets >= MOST_OFFSETS,
+            (Standing::InCalendar(CalendarLines { dates, .. }), Mark::ClosedDay) => dates
+                >= MOST_CLOSED_DAYS,
+            (Standing::InCalendar(CalendarLines { offsets, .. }), Mark::Offset) => offsets
+                >= MOST_OFFSETS,
             (Standing::InHoldings { count }, Mark::Holding) => count >= MOST_HOLDINGS,
             (_, _) => false,
         }
@@ -70,17 +74,39 @@ impl Standing {
         ensures { result ≡ next self mark }
     {
         match (self, mark) {
-            (Standing::InCalendar(seen), Mark::Pattern) => Standing::InCalendar(CalendarLines {
-                has_pattern: true,
-                ..seen
+            (Standing::InCalendar(CalendarLines { dates, offsets, .. }), Mark::Pattern) =>
+                Standing::InCalendar(CalendarLines {
+                    has_pattern: true,
+                    dates,
+                    offsets,
+                }),
+            (
+                Standing::InCalendar(
+                    CalendarLines {
+                        has_pattern,
+                        dates,
+                        offsets,
+                    },
+                ),
+                Mark::ClosedDay,
+            ) => Standing::InCalendar(CalendarLines {
+                has_pattern,
+                dates: dates + 1,
+                offsets,
             }),
-            (Standing::InCalendar(seen), Mark::ClosedDay) => Standing::InCalendar(CalendarLines {
-                dates: seen.dates + 1,
-                ..seen
-            }),
-            (Standing::InCalendar(seen), Mark::Offset) => Standing::InCalendar(CalendarLines {
-                offsets: seen.offsets + 1,
-                ..seen
+            (
+                Standing::InCalendar(
+                    CalendarLines {
+                        has_pattern,
+                        dates,
+                        offsets,
+                    },
+                ),
+                Mark::Offset,
+            ) => Standing::InCalendar(CalendarLines {
+                has_pattern,
+                dates,
+                offsets: offsets + 1,
             }),
             (_, Mark::Deal) => Standing::InHoldings { count: 0 },
             (Standing::InHoldings { count }, Mark::Holding) => Standing::InHoldings {

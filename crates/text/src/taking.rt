@@ -32,27 +32,19 @@ impl<'a> Fields<'a> {
         let Some(rest) = self.rest else {
             return Err(place.refuses(Refusal::BadField));
         };
-        let (word, later) = match split_once(rest, b' ') {
-            Some((word, later)) => (
-                word,
-                Fields {
-                    place: place.further(word.len() + 1),
-                    rest: Some(later),
-                },
-            ),
-            None => (
-                rest,
-                Fields {
-                    place: place.further(rest.len()),
-                    rest: None,
-                },
-            ),
+        let (word, width, later) = match split_once(rest, b' ') {
+            Some((word, later)) => (word, word.len() + 1, Some(later)),
+            None => (rest, rest.len(), None),
         };
-        *self = later;
+        // Field by field, since a whole struct is put together anew for each word.
+        self.rest = later;
+        self.place = place.further(width);
         Ok(place.holds(word))
     }
 
     // What the next word says; a word that says nothing is a bad field.
+    // Inlined, so that how far the line is read is kept in registers.
+    #[inline(always)]
     pub(crate) fn next_field<K: Kind>(&mut self) -> Result<At<K::Said>, Fault>
         ensures read { ReadsField K.says (ending self.old) (left self.old) result (left self.new) }
         ensures same_line { ending self.new ≡ ending self.old }

@@ -12,6 +12,8 @@ const MOST_DIGITS: usize = 11;
 
 // The number that digits of a radix write; absent where a byte is none. A loop and no `try_fold`, whose closure would
 // know no bound of the number so far.
+// Inlined, so that the radix is a constant in it.
+#[inline(always)]
 fn digits_value(radix: u32, digits: &[u8]) -> Option<u64>
     requires two { 2 ≤ radix }
     requires ten { radix ≤ 10 }

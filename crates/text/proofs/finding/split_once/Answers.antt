@@ -1,36 +1,27 @@
-use Rattle.std.proofs.Common.{◌≡◌, ℕ, ◌+◌, ◌<◌, List, ◌∷◌, ◌++◌, length, take, drop, sym, ap, ◌∙◌, arith, rules}
-use borrow.Author.Tests.{tests}
-use Rattle.std.specs.List.{AllWithin, HoldsAt}
-use Rattle.std.proofs.lemmas.Iterator.{IsFirst-from_position, YieldsList-from_slice}
+use Rattle.std.proofs.Common.{◌≡◌, ℕ, ◌+◌, ◌<◌, List, ◌∷◌, ◌++◌, length, get_or, take, drop, sym, ap, ◌∙◌, arith}
 use Rattle.std.proofs.lemmas.List.{take-append-drop, take_rest, drop_more, get_or-take, length-take-le}
-use Rattle.text.specs.Cuts.{Splits, Without}
+use Rattle.text.specs.Cuts.{Splits}
 use Rattle.text.proofs.LineCuts.{without_from}
 use Rattle.text.proofs.finding.split_once.Goals as goal
 
-none_found : (b : ℕ) (xs : List ℕ) → AllWithin (λ x. x ≡ b → ⊥) xs 0 (length xs) → Without b xs
-none_found b xs none = without_from b xs (λ k less. none k 0 (omega arith) less)
-
 first_found :
-    (b : ℕ) (xs : List ℕ) (i : ℕ) → (i < length xs) × HoldsAt (λ x. x ≡ b) xs i × AllWithin (λ x. x ≡ b → ⊥) xs 0 i →
+    (b : ℕ) (xs : List ℕ) (i : ℕ) → i < length xs → get_or xs i 0 ≡ b → ((k : ℕ) → k < i → get_or xs k 0 ≡ b → ⊥) →
     Splits b xs (take i xs) (drop (i + 1) xs)
-first_found b xs i h =
+first_found b xs i inside found before =
     record {
-      joins = sym (take-append-drop i xs) ∙ ap (λ ys. take i xs ++ ys) (drop_more xs i b h.0 ∙ ap (λ c. c ∷ drop (i + 1) xs) (h.1 b));
+      joins = sym (take-append-drop i xs) ∙ ap (λ ys. take i xs ++ ys) (drop_more xs i 0 inside ∙ ap (λ c. c ∷ drop (i + 1) xs) found);
       clean = without_from b (take i xs) (λ k less e.
-          let inside : k < i = omega (arith, length-take-le i xs (omega arith)) in
-          h.2 k 0 (omega arith) inside (sym (get_or-take i xs k 0 inside) ∙ e));
+          let near : k < i = omega (arith, length-take-le i xs (omega arith)) in
+          before k near (sym (get_or-take i xs k 0 near) ∙ e));
     }
-
-pub returns-in_err-end : goal.returns-in_err-end
-returns-in_err-end c =
-    let b = c.args.byte in
-    let found = IsFirst-from_position _ _ c.position.result (λ x. x ≡ b) (λ x. x ≡ b → ⊥) c.position.ensures.ran (YieldsList-from_slice c.args.bytes.now cc) (λ x q k. search (rules, tests)) (λ x q k. search (rules, tests)) in
-    let none = rw c.in_err-end.was at found in
-    rw c.from_residual.ensures (none_found b c.args.bytes.now none)
 
 pub returns : goal.returns
 returns c =
-    let b = c.args.byte in
-    let found = IsFirst-from_position _ _ c.position.result (λ x. x ≡ b) (λ x. x ≡ b → ⊥) c.position.ensures.ran (YieldsList-from_slice c.args.bytes.now cc) (λ x q k. search (rules, tests)) (λ x q k. search (rules, tests)) in
-    let first = rw c.in_ok-end.was at found in
-    rw take_rest (first_found b c.args.bytes.now c.in_ok-end.end first)
+    let found = c.first_place-end.ensures in
+    let inside : c.first_place-end.result < length c.args.bytes.now = omega arith in
+    rw take_rest (first_found c.args.byte c.args.bytes.now c.first_place-end.result inside (found.found inside) found.before)
+
+pub returns-then-end-bytes : goal.returns-then-end-bytes
+returns-then-end-bytes c =
+    let before = c.first_place-end.ensures.before in
+    without_from c.args.byte c.args.bytes.now (λ k less. before k (omega (arith, c.if-end-bytes.true)))

@@ -24,6 +24,6 @@ is_date y m d length is from to = record { month = is.0; day_from = from; day_to
 pub returns : goal.returns
 returns c =
     record {
-      value = (is_date _ _ _ _ c.in_ok-length.ensures c.if-self-lt1.false c.if-self-length.false, c.days_before.ensures);
+      value = (is_date _ _ _ _ c.in_ok-length.ensures (omega arith) (omega arith), c.days_before.ensures);
       follow = days_follow;
     }

@@ -1,4 +1,4 @@
-use Rattle.std.proofs.Common.{◌+◌, ◌<◌, length, ap, ◌∙◌, arith}
+use Rattle.std.proofs.Common.{◌+◌, ◌<◌, length, take, ap, ◌∙◌, arith}
 use Rattle.std.proofs.lemmas.List.{take_rest}
 use Rattle.report.specs.Deals.{starts_of}
 use Rattle.report.proofs.Reporting.{deal_there, deal_stands, deal_reported, laid_within}
@@ -20,10 +20,10 @@ returns c =
     let set = c.set.result in
     record {
       reported =
-          deal_reported lines k at c.in-Deal.terms set.first set.second.first.days.now
-          set.second.second _ c.args.out.now c.report.result c.report.new.out
-          (c.set.ensures.easter ∙ self.offsets) (c.set.ensures.days ∙ self.days)
-          (c.set.ensures.pattern ∙ self.pattern) (take_rest lines (at + 1))
+          deal_reported lines k at c.in-Deal.terms (take set.first.count set.first.offsets) set.second.first.days.now
+          set.second.second.mask _ c.args.out.now c.report.result c.report.new.out
+          (ap (λ e. take e.count e.offsets) c.set.ensures.easter ∙ self.offsets) (c.set.ensures.days ∙ self.days)
+          (ap (λ p. p.mask) c.set.ensures.pattern ∙ self.pattern) (take_rest lines (at + 1))
           (deal_there lines k at c.in-Deal.terms less c.place_of-at.ensures.place c.in-Deal.is) c.report.ensures;
       within = laid_within _ c.args.out.now c.report.result c.report.new.out c.report.ensures;
     }

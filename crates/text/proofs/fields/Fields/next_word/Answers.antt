@@ -10,6 +10,6 @@ returns-clause-taken c =
     elim c.match-split_once.branch [
       | in-Some-split_once w ↦
           let at = w.in-Some-split_once in
-          rw (c.holds.ensures, w.t-12-is, w.further.ensures, c.in-Some.is) (words_cut column rest at.word.now at.later.now at.ensures, refl)
-      | in-None w ↦ rw (c.holds.ensures, w.t-12-is, c.in-Some.is) (words_last column rest w.in-None.ensures, refl)
+          rw (c.holds.ensures, c.further-self.ensures, w.width-is, c.in-Some.is) (words_cut column rest at.word.now at.later.now at.ensures, refl)
+      | in-None w ↦ rw (c.holds.ensures, w.width-is, c.in-Some.is) (words_last column rest w.in-None.ensures, refl)
     ]

@@ -1,11 +1,11 @@
 use Rattle.std.proofs.Common.{◌++◌, take, ap, ◌∙◌, arith}
-use Rattle.days.proofs.Parts.{found}
+use Rattle.days.proofs.Parts.{found_date}
 use Rattle.writing.proofs.Cuts.{then}
 use Rattle.writing.proofs.Dated.{date_found}
 use Rattle.writing.proofs.draft.Draft.date.Goals as goal
 
 pub two_digits-requires-in-Some-3 : goal.two_digits-requires-in-Some-3
-two_digits-requires-in-Some-3 c = let is = found c.args.day _ _ _ c.in-Some.ensures.value in omega arith
+two_digits-requires-in-Some-3 c = let is = found_date c.args.day _ _ _ c.in-Some.ensures.value in omega arith
 
 pub returns-in-Some-clause-inside : goal.returns-in-Some-clause-inside
 returns-in-Some-clause-inside c within =
